@@ -1,0 +1,5 @@
+pub mod Digit
+pub mod Weigh
+pub mod Value
+pub mod Figures
+pub mod Halves

@@ -1,0 +1,4 @@
+pub mod Digits
+pub mod Check
+pub mod Account
+pub mod Examples

@@ -1,0 +1,46 @@
+-- The bank list: numbers of at most eight digits in strictly ascending order (01, The job), and the search by halves.
+-- Assumes nothing.
+use Prim.Native.Nat.{ℕ, zero, suc, _+_, _/_}
+use mathlib.Core.Bool.{Bool, true, false, cond, _&&_, _||_}
+use mathlib.Core.List.{List, [], _∷_}
+use lib.ListN.{length, getD, take, drop}
+use lib.Dec.{leb, ltb, eqb}
+use Rattle.base.specs.Bytes.{every}
+
+-- x is an element
+abbrev pub member : ℕ → List ℕ → Bool
+member x [] = false
+member x (y ∷ ys) = eqb y x || member x ys
+
+-- each element is above the one before it, and the first above p
+abbrev pub above : ℕ → List ℕ → Bool
+above p [] = true
+above p (x ∷ xs) = ltb p x && above x xs
+
+-- each element is above the one before it
+abbrev pub ascends : List ℕ → Bool
+ascends [] = true
+ascends (x ∷ xs) = above x xs
+
+-- a list that ascends and holds no number over top
+abbrev pub ascendsTo : ℕ → List ℕ → Bool
+ascendsTo top l = ascends l && every (λ x. leb x top) l
+
+-- the list is a bank list (01, refusal 2)
+abbrev pub isBankList : List ℕ → Bool
+isBankList = ascendsTo 99999999
+
+-- the search by halves, for at most n turns
+abbrev pub halved : ℕ → ℕ → List ℕ → Bool
+halved zero x l = false
+halved (suc n) x [] = false
+halved (suc n) x (y ∷ ys) =
+    let l = y ∷ ys in
+    let m = length l / 2 in
+    let high = halved n x (drop (m + 1) l) in
+    let low = halved n x (take m l) in
+    cond (eqb (getD l m 0) x) true (cond (ltb (getD l m 0) x) high low)
+
+-- what halving finds in any list; in a list that ascends it is membership
+abbrev pub foundIn : List ℕ → ℕ → Bool
+foundIn l x = halved (length l) x l

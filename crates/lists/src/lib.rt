@@ -1,0 +1,182 @@
+// The lists that the judge is lent, the bank list and the known list, and the table of purposes.
+ghost use mathlib.Core.Path.{_≡_};
+ghost use mathlib.Core.Bool.{true};
+ghost use Rattle.base.specs.Bytes.{same};
+ghost use Rattle.lists.specs.Banks.{ascends, ascendsTo, isBankList, foundIn, member};
+ghost use Rattle.lists.specs.Known.{isKnownList, isKnown};
+ghost use Rattle.lists.specs.Purposes.{isPurpose};
+
+// Whether each number is above the one before it. One pass without a branch: it runs for each piece of a message.
+fn in_order(list: &[u32]) -> bool
+    ensures { λ r. ⌜ r ≡ ascends (now (list .entry)) ⌝ }
+{
+    if list.len() == 0 {
+        return true;
+    }
+    let mut ok = true;
+    let mut prev = list[0];
+    let mut i = 1;
+    while i < list.len() {
+        let x = list[i];
+        ok = ok & (prev < x);
+        prev = x;
+        i += 1;
+    }
+    ok
+}
+
+// Whether the list ascends and holds no number over top. The last number of a list that ascends is its greatest: it alone is compared.
+fn ascends_to(list: &[u32], top: u32) -> bool
+    ensures { λ r. ⌜ r ≡ ascendsTo top (now (list .entry)) ⌝ }
+{
+    let n = list.len();
+    if n == 0 {
+        return true;
+    }
+    if list[n - 1] > top {
+        return false;
+    }
+    in_order(list)
+}
+
+// Whether the list is a bank list: strictly ascending, no number over eight digits (01, refusal 2).
+pub fn is_bank_list(list: &[u32]) -> bool
+    ensures { λ r. ⌜ r ≡ isBankList (now (list .entry)) ⌝ }
+{
+    ascends_to(list, 99999999)
+}
+
+// Whether the code is listed, by halving the lent list (01, "a list in strictly ascending order").
+pub fn is_listed(list: &[u32], code: u32) -> bool
+    ensures halves { λ r. ⌜ r ≡ foundIn (now (list .entry)) code ⌝ }
+    ensures exact { λ r. ⌜ (ascends (now (list .entry)) ≡ true → r ≡ member code (now (list .entry))) ⌝ }
+{
+    if list.len() == 0 {
+        return false;
+    }
+    let mid = list.len() / 2;
+    let x = list[mid];
+    if x == code {
+        return true;
+    }
+    if x < code {
+        is_listed(&list[mid + 1..], code)
+    } else {
+        is_listed(&list[0..mid], code)
+    }
+}
+
+// Whether the bytes are whole identifiers (01, refusal 3).
+pub fn is_known_list(list: &[u8]) -> bool
+    ensures { λ r. ⌜ r ≡ isKnownList (now (list .entry)) ⌝ }
+{
+    list.len() % 25 == 0
+}
+
+// Whether one entry of the known list is the identifier.
+fn is_id(entry: &[u8], id: [u8; 25]) -> bool
+    ensures { λ r. ⌜ r ≡ same (now (entry .entry)) id ⌝ }
+{
+    if entry.len() != 25 {
+        return false;
+    }
+    let mut i = 0;
+    while i < 25 {
+        if entry[i] != id[i] {
+            return false;
+        }
+        i += 1;
+    }
+    true
+}
+
+// Whether the identifier is in the known list (01, Faults of the whole message, 3); bytes after the last whole entry don't count.
+pub fn is_known(list: &[u8], id: [u8; 25]) -> bool
+    ensures { λ r. ⌜ r ≡ isKnown (now (list .entry)) id ⌝ }
+{
+    let n = list.len() / 25;
+    let mut k = 0;
+    while k < n {
+        let at = k * 25;
+        if is_id(&list[at..at + 25], id) {
+            return true;
+        }
+        k += 1;
+    }
+    false
+}
+
+// The purposes, in the order of annex 2 of 002.
+const PURPOSES: [[u8; 3]; 46] = [
+    *b"BEB",
+    *b"BEE",
+    *b"BET",
+    *b"BKB",
+    *b"BKK",
+    *b"BLV",
+    *b"BNY",
+    *b"BEO",
+    *b"BGC",
+    *b"BGK",
+    *b"BGX",
+    *b"BGY",
+    *b"MUN",
+    *b"CSP",
+    *b"ETK",
+    *b"GYD",
+    *b"GYS",
+    *b"ILK",
+    *b"TID",
+    *b"TPZ",
+    *b"MHL",
+    *b"MGY",
+    *b"MBD",
+    *b"ELL",
+    *b"EGS",
+    *b"NYP",
+    *b"UGY",
+    *b"MNJ",
+    *b"NYG",
+    *b"NOE",
+    *b"NOK",
+    *b"NME",
+    *b"NMK",
+    *b"NGY",
+    *b"CST",
+    *b"DIJ",
+    *b"FUJ",
+    *b"FUT",
+    *b"GAZ",
+    *b"KEM",
+    *b"KTS",
+    *b"LBR",
+    *b"MVZ",
+    *b"SZE",
+    *b"THO",
+    *b"VIL",
+];
+
+// Whether the bytes are one purpose of the table.
+fn is_code(s: &[u8], code: [u8; 3]) -> bool
+    ensures { λ r. ⌜ r ≡ same code (now (s .entry)) ⌝ }
+{
+    if s.len() != 3 {
+        return false;
+    }
+    (code[0] == s[0]) & (code[1] == s[1]) & (code[2] == s[2])
+}
+
+// Whether the bytes are a purpose (annex 2 of 002). The table is named once, before the loop: it is stored where it is named.
+pub fn is_purpose(s: &[u8]) -> bool
+    ensures { λ r. ⌜ r ≡ isPurpose (now (s .entry)) ⌝ }
+{
+    let table = PURPOSES;
+    let mut i = 0;
+    while i < 46 {
+        if is_code(s, table[i]) {
+            return true;
+        }
+        i += 1;
+    }
+    false
+}

@@ -1,0 +1,95 @@
+// Text fields: the letters of code page 852 that a message may hold, fields of spaces, fields of spaces and zeros.
+ghost use mathlib.Core.Path.{_≡_};
+ghost use Rattle.base.specs.Bytes.{every};
+ghost use Rattle.text.specs.Text.{plain, letter, space, spaceOrZero, isText, isBlank, isBlankOrZero};
+
+// Each byte is 20h to 7Eh. No branch on a byte, so that the compiler takes many at a time.
+fn all_plain(s: &[u8]) -> bool
+    ensures { λ r. ⌜ r ≡ every plain (now (s .entry)) ⌝ }
+{
+    let mut ok = true;
+    let mut i = 0;
+    while i < s.len() {
+        let b = s[i];
+        ok = ok & ((b >= 0x20) & (b <= 0x7e));
+        i += 1;
+    }
+    ok
+}
+
+// A byte may stand in text. Comparisons and no table: a table is stored anew where it is named.
+fn is_letter(b: u8) -> bool
+    ensures { λ r. ⌜ r ≡ letter b ⌝ }
+{
+    (b >= 0x20) & (b <= 0x7e)
+        | (b == 0x81)
+        | (b == 0x82)
+        | (b == 0x8a)
+        | (b == 0x8b)
+        | (b == 0x90)
+        | (b == 0x94)
+        | (b == 0x99)
+        | (b == 0x9a)
+        | (b == 0xa0)
+        | (b == 0xa1)
+        | (b == 0xa2)
+        | (b == 0xa3)
+        | (b == 0xb5)
+        | (b == 0xd6)
+        | (b == 0xe0)
+        | (b == 0xe9)
+        | (b == 0xeb)
+        | (b == 0xfb)
+}
+
+// Each byte may stand in text, with no branch on a byte.
+fn all_letters(s: &[u8]) -> bool
+    ensures { λ r. ⌜ r ≡ isText (now (s .entry)) ⌝ }
+{
+    let mut ok = true;
+    let mut i = 0;
+    while i < s.len() {
+        ok = ok & is_letter(s[i]);
+        i += 1;
+    }
+    ok
+}
+
+// Each byte may stand in text (01, fault 2). The letters above 7Eh are looked for only where the quick pass fails.
+pub fn is_text(s: &[u8]) -> bool
+    ensures { λ r. ⌜ r ≡ isText (now (s .entry)) ⌝ }
+{
+    if all_plain(s) {
+        return true;
+    }
+    all_letters(s)
+}
+
+// Each byte is a space (01, the head's name). A field that is not blank shows it by its first byte, most often.
+pub fn is_blank(s: &[u8]) -> bool
+    ensures { λ r. ⌜ r ≡ isBlank (now (s .entry)) ⌝ }
+{
+    let mut i = 0;
+    while i < s.len() {
+        if s[i] != b' ' {
+            return false;
+        }
+        i += 1;
+    }
+    true
+}
+
+// Each byte is a space or a zero (002 section 1.3.1, customer id and owner).
+pub fn is_blank_or_zero(s: &[u8]) -> bool
+    ensures { λ r. ⌜ r ≡ isBlankOrZero (now (s .entry)) ⌝ }
+{
+    let mut i = 0;
+    while i < s.len() {
+        let b = s[i];
+        if !((b == b' ') | (b == b'0')) {
+            return false;
+        }
+        i += 1;
+    }
+    true
+}
