@@ -1,2 +1,4 @@
 pub mod Walk
 pub mod Every
+pub mod Parts
+pub mod Same

@@ -1,6 +1,6 @@
--- Lists of bytes: text as bytes, a test that every byte passes, two lists that are the same, and writing over a part.
+-- Lists of bytes: text as bytes, fields by their positions, a test that every byte passes, and writing over a part.
 -- Assumes nothing.
-use Prim.Native.Nat.{ℕ, _+_}
+use Prim.Native.Nat.{ℕ, _+_, _-_}
 use Prim.Native.Char.{code}
 use Prim.Native.String.{String}
 use mathlib.Core.Bool.{Bool, true, false, _&&_}
@@ -12,6 +12,10 @@ use lib.Dec.{eqb}
 abbrev pub ascii : String → List ℕ
 ascii String.[] = []
 ascii (String._∷_ c s) = code c ∷ ascii s
+
+-- the bytes at positions a to b of a record, counted from 1, both in
+abbrev pub field : ℕ → ℕ → List ℕ → List ℕ
+field a b r = take (b + 1 - a) (drop (a - 1) r)
 
 -- every byte passes the test
 abbrev pub every : (ℕ → Bool) → List ℕ → Bool

@@ -11,7 +11,7 @@ use borrow.Author.Needs.{needs}
 use borrow.Fn.Kinds.{In}
 use borrow.Fn.PlainCycle.{Measures, is, falls, and}
 use Rattle.lists.specs.Banks.{foundIn, ascends, member}
-use Rattle.lists.proofs.Parts.{tail, front, part-length}
+use Rattle.base.proofs.Parts.{tail, front, part-length}
 use Rattle.lists.proofs.Halves.{turn}
 use Rattle.lists.proofs.Member.{exact}
 use Rattle.lists.proofs.is_listed.Reads as is-listed

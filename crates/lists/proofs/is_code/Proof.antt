@@ -2,7 +2,7 @@
 -- Assumes nothing.
 use mathlib.Core.Path.{_≡_, sym, _∙_}
 use lib.ListN.{length}
-use Rattle.lists.proofs.Same.{unlike}
+use Rattle.base.proofs.Same.{unlike}
 use Rattle.lists.proofs.Purposes.{three}
 use borrow.Author.Needs.{needs}
 use Rattle.lists.proofs.is_code.Statement.{statement}

@@ -4,7 +4,7 @@ use mathlib.Core.Path.{_≡_, refl, sym, _∙_}
 use Prim.Native.Nat.{_-_}
 use native.Mathlib.Omega.{arith}
 use lib.ListN.{length}
-use Rattle.lists.proofs.Same.{Walked, unlike, ends, stops, on}
+use Rattle.base.proofs.Same.{Walked, unlike, ends, stops, on}
 use borrow.Author.Needs.{needs}
 use Rattle.lists.proofs.is_id.Statement.{statement}
 use Rattle.lists.proofs.is_id.Tie as tie

@@ -1,0 +1,134 @@
+-- Code 00 exactly when no fault of the whole message exists; then accepted and refused items number what the foot says, and their amounts make its sum.
+-- Assumes nothing.
+use mathlib.Core.Path.{_≡_, refl, sym, ap, _∙_}
+use mathlib.Core.Bool.{Bool, true, false, cond, not, _||_, false≢true}
+use mathlib.Core.List.{List, [], _∷_, map}
+use Prim.Native.Nat.{ℕ, zero, suc, _+_, _≤_, _<_}
+use native.Mathlib.Omega.{arith}
+use lib.ListN.{length}
+use lib.Dec.{ltb, eqb}
+use borrow.Author.Tests.{eqb-true, eqb-false}
+use Rattle.frame.specs.declared.Found.{Found}
+use Rattle.frame.specs.Records.{headOf, footOf, isBroken, noId}
+use Rattle.frame.specs.Verdict.{Rules, Verdict, first, any, accepted, refused, total, foundIn, messageCode, identifier, overflows, verdict, blank, counted}
+use Rattle.frame.specs.Faults.{Each, Faultless, Sound}
+
+-- codes that are all 0
+abbrev Zeros : List ℕ → Type 0
+Zeros [] = Unit
+Zeros (c ∷ cs) = (c ≡ 0) × Zeros cs
+
+first-zeros : (cs : List ℕ) → first cs ≡ 0 → Zeros cs
+first-zeros [] e = tt
+first-zeros (c ∷ cs) e = go (eqb c 0) refl e (λ h. first-zeros cs h)
+  where
+    go : (t : Bool) → eqb c 0 ≡ t → cond t (first cs) c ≡ 0 → (first cs ≡ 0 → Zeros cs) → (c ≡ 0) × Zeros cs
+    go true q e ih = (eqb-true c 0 q, ih e)
+    go false q e ih = absurd (eqb-false c 0 q e)
+
+zeros-first : (cs : List ℕ) → Zeros cs → first cs ≡ 0
+zeros-first [] z = refl
+zeros-first (c ∷ cs) z = rw (z .0) (zeros-first cs (z .1))
+
+flag-off : (b : Bool) (n : ℕ) → (n ≡ 0 → ⊥) → cond b n 0 ≡ 0 → b ≡ false
+flag-off true n f e = absurd (f e)
+flag-off false n f e = refl
+
+flag-on : (b : Bool) (n : ℕ) → b ≡ false → cond b n 0 ≡ 0
+flag-on b n e = rw e
+
+neither : (a b : Bool) → a || b ≡ false → (a ≡ false) × (b ≡ false)
+neither true b e = absurd (false≢true (sym e))
+neither false b e = (refl, e)
+
+each-letter : (fs : List Found) → any (map (λ f. f .letter) fs) ≡ false → Each (λ f. f .letter ≡ false) fs
+each-letter [] e = tt
+each-letter (f ∷ fs) e = let h = neither (f .letter) (any (map (λ f. f .letter) fs)) e in (h .0, each-letter fs (h .1))
+
+no-letter : (fs : List Found) → Each (λ f. f .letter ≡ false) fs → any (map (λ f. f .letter) fs) ≡ false
+no-letter [] e = refl
+no-letter (f ∷ fs) e = rw (e .0) (no-letter fs (e .1))
+
+each-fault : (fs : List Found) → Zeros (map (λ f. f .fault) fs) → Each (λ f. f .fault ≡ 0) fs
+each-fault [] z = tt
+each-fault (f ∷ fs) z = (z .0, each-fault fs (z .1))
+
+no-fault : (fs : List Found) → Each (λ f. f .fault ≡ 0) fs → Zeros (map (λ f. f .fault) fs)
+no-fault [] e = tt
+no-fault (f ∷ fs) e = (e .0, no-fault fs (e .1))
+
+module _ (R : Rules) (m : List ℕ) where
+  abbrev fs : List Found
+  fs = foundIn R m
+
+  abbrev letters : Bool
+  letters = R .headLetter (headOf (R .sizes) m) || any (map (λ f. f .letter) fs)
+
+  -- the codes in rank order
+  abbrev ranks : List ℕ
+  ranks =
+      cond (isBroken (R .sizes) m) 26 0
+      ∷ cond letters 36 0
+      ∷ R .headCode (headOf (R .sizes) m)
+      ∷ first (map (λ f. f .fault) fs)
+      ∷ R .footCode (length fs) (total fs) (footOf (R .sizes) m)
+      ∷ []
+
+  -- code 00 means no fault of the whole message
+  pub faultless : messageCode R m ≡ 0 → Faultless R m
+  unfolding messageCode
+  faultless e =
+      let z = first-zeros ranks e in
+      let l = neither (R .headLetter (headOf (R .sizes) m)) (any (map (λ f. f .letter) fs)) (flag-off letters 36 (λ q. omega arith) (z .1 .0)) in
+      record {
+        unbroken = flag-off (isBroken (R .sizes) m) 26 (λ q. omega arith) (z .0);
+        head-letters = l .0;
+        item-letters = each-letter fs (l .1);
+        head = z .1 .1 .0;
+        items = each-fault fs (first-zeros (map (λ f. f .fault) fs) (z .1 .1 .1 .0));
+        foot = z .1 .1 .1 .1 .0;
+      }
+
+  -- and no fault means code 00
+  pub code-zero : Faultless R m → messageCode R m ≡ 0
+  unfolding messageCode
+  code-zero k =
+      let l : letters ≡ false = ap (λ (b : Bool). b || any (map (λ f. f .letter) fs)) (k .head-letters) ∙ no-letter fs (k .item-letters) in
+      zeros-first ranks
+      (flag-on (isBroken (R .sizes) m) 26 (k .unbroken), (flag-on letters 36 l, (k .head, (zeros-first (map (λ f. f .fault) fs) (no-fault fs (k .items)), (k .foot, tt)))))
+
+-- accepted and refused are all
+pub all-items : (fs : List Found) → length (accepted fs) + length (refused fs) ≡ length fs
+all-items [] = refl
+all-items (f ∷ fs) = go (eqb (f .code) 0) (all-items fs)
+  where
+    go : (t : Bool) → length (accepted fs) + length (refused fs) ≡ length fs → length (cond t (f ∷ accepted fs) (accepted fs)) + length (cond (not t) (f ∷ refused fs) (refused fs)) ≡ suc (length fs)
+    go true e = omega arith
+    go false e = omega arith
+
+pub all-amounts : (fs : List Found) → total (accepted fs) + total (refused fs) ≡ total fs
+all-amounts [] = refl
+all-amounts (f ∷ fs) = go (eqb (f .code) 0) (all-amounts fs)
+  where
+    go : (t : Bool) → total (accepted fs) + total (refused fs) ≡ total fs → total (cond t (f ∷ accepted fs) (accepted fs)) + total (cond (not t) (f ∷ refused fs) (refused fs)) ≡ f .amount + total fs
+    go true e = omega arith
+    go false e = omega arith
+
+-- when the answer is code 00, the numbers are those of the foot
+module _ (R : Rules) (ok : Sound R) (t m : List ℕ) where
+  pub totals : verdict R t m .refusal ≡ 0 → verdict R t m .code ≡ 0
+      → (verdict R t m .acceptedCount + verdict R t m .refusedCount ≡ R .footCount (footOf (R .sizes) m)) × (verdict R t m .acceptedSum + verdict R t m .refusedSum ≡ R .footSum (footOf (R .sizes) m))
+  unfolding verdict
+  totals r c = go (overflows R t m) (eqb (messageCode R m) 0) refl r c
+    where
+      v : Bool → Bool → Verdict
+      v o z = cond o (blank 6 0 noId) (cond z (counted (foundIn R m) (identifier R m)) (blank 0 (messageCode R m) (identifier R m)))
+
+      go : (o z : Bool) → eqb (messageCode R m) 0 ≡ z → v o z .refusal ≡ 0 → v o z .code ≡ 0
+          → (v o z .acceptedCount + v o z .refusedCount ≡ R .footCount (footOf (R .sizes) m)) × (v o z .acceptedSum + v o z .refusedSum ≡ R .footSum (footOf (R .sizes) m))
+      go true z q r c = absurd (omega arith)
+      go false true q r c =
+          let k = faultless R m (eqb-true (messageCode R m) 0 q) in
+          let s = ok .foot-says (length (foundIn R m)) (total (foundIn R m)) (footOf (R .sizes) m) (k .foot) in
+          (all-items (foundIn R m) ∙ sym (s .0), all-amounts (foundIn R m) ∙ sym (s .1))
+      go false false q r c = absurd (eqb-false (messageCode R m) 0 q c)

@@ -1,0 +1,7 @@
+pub mod Pieces
+pub mod Tally
+pub mod Uncut
+pub mod Whole
+pub mod Faults
+pub mod Places
+pub mod Empty

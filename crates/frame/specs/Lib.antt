@@ -1,0 +1,5 @@
+pub mod Records
+pub mod Places
+pub mod Verdict
+pub mod Machine
+pub mod Faults

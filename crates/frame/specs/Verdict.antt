@@ -1,0 +1,140 @@
+-- The verdict on a message that is not cut, for any field rules (01, Faults of the whole message; Calls and their answers).
+-- Assumes nothing.
+use Prim.Native.Nat.{ℕ, _+_}
+use mathlib.Core.Bool.{Bool, true, false, cond, not, _&&_, _||_}
+use mathlib.Core.List.{List, [], _∷_, _++_, map}
+use lib.ListN.{length, take, drop}
+use lib.Dec.{ltb, eqb}
+use Rattle.frame.specs.declared.Found.{Found}
+use Rattle.frame.specs.Records.{Sizes, noId, idOf, headStands, headOf, itemsOf, footOf, isBroken}
+
+-- the field rules of a kind of message. A code is 0 where no fault is found
+pub record Rules : Type 0 where
+  -- the lengths of its records
+  pub sizes : Sizes
+  -- what the head tells the rules of the items: the one thing that they may take from it
+  pub tells : List ℕ → ℕ
+  -- a bad letter in the head's text, and the code of its first fault
+  pub headLetter : List ℕ → Bool
+  pub headCode : List ℕ → ℕ
+  -- an item: by what the head told and the item's place, from 1
+  pub item : ℕ → ℕ → List ℕ → Found
+  -- the foot's code, by the items' number and the sum of their amounts; and the count and the sum that it states
+  pub footCode : ℕ → ℕ → List ℕ → ℕ
+  pub footCount : List ℕ → ℕ
+  pub footSum : List ℕ → ℕ
+
+-- the first code that isn't 0, and 0 if there is none
+abbrev pub first : List ℕ → ℕ
+first [] = 0
+first (c ∷ cs) = cond (eqb c 0) (first cs) c
+
+-- one of them is true
+abbrev pub any : List Bool → Bool
+any [] = false
+any (b ∷ bs) = b || any bs
+
+-- what is found that passes a test
+abbrev pub those : (Found → Bool) → List Found → List Found
+those p [] = []
+those p (f ∷ fs) = cond (p f) (f ∷ those p fs) (those p fs)
+
+-- accepted items have code 0, all others are refused
+abbrev pub isAccepted : Found → Bool
+isAccepted f = eqb (f .code) 0
+
+abbrev pub accepted : List Found → List Found
+accepted = those isAccepted
+
+abbrev pub refused : List Found → List Found
+refused = those (λ f. not (isAccepted f))
+
+-- the sum of the amounts
+abbrev pub total : List Found → ℕ
+total [] = 0
+total (f ∷ fs) = f .amount + total fs
+
+-- how many of them have an account of zeros
+abbrev pub watched : List Found → ℕ
+watched fs = length (those (λ f. f .zero) fs)
+
+-- what closing gives: refusal 6 or 0, the message code, accepted count and sum, refused count and sum, the zero watch, the identifier
+pub record Verdict : Type 0 where
+  pub refusal : ℕ
+  pub code : ℕ
+  pub acceptedCount : ℕ
+  pub acceptedSum : ℕ
+  pub refusedCount : ℕ
+  pub refusedSum : ℕ
+  pub zeros : ℕ
+  pub id : List ℕ
+
+-- a verdict with its five numbers at 0
+abbrev pub blank : ℕ → ℕ → List ℕ → Verdict
+blank r c id =
+    record {
+      refusal = r;
+      code = c;
+      acceptedCount = 0;
+      acceptedSum = 0;
+      refusedCount = 0;
+      refusedSum = 0;
+      zeros = 0;
+      id = id;
+    }
+
+-- the items that were found, with an identifier
+abbrev pub counted : List Found → List ℕ → Verdict
+counted fs id =
+    record {
+      refusal = 0;
+      code = 0;
+      acceptedCount = length (accepted fs);
+      acceptedSum = total (accepted fs);
+      refusedCount = length (refused fs);
+      refusedSum = total (refused fs);
+      zeros = watched (accepted fs);
+      id = id;
+    }
+
+module _ (R : Rules) where
+  -- what is found in items of which the first stands at place k
+  unfoldable pub findings : ℕ → ℕ → List (List ℕ) → List Found
+  findings told k [] = []
+  findings told k (r ∷ rs) = R .item told k r ∷ findings told (k + 1) rs
+
+  -- what is found in the items of a message
+  abbrev pub foundIn : List ℕ → List Found
+  foundIn m = findings (R .tells (headOf (R .sizes) m)) 1 (itemsOf (R .sizes) m)
+
+  -- the ranking of 01, read downwards: break, letter, head, items in order, foot
+  unfoldable pub messageCode : List ℕ → ℕ
+  messageCode m =
+      first
+      (cond (isBroken (R .sizes) m) 26 0
+      ∷ cond (R .headLetter (headOf (R .sizes) m) || any (map (λ f. f .letter) (foundIn m))) 36 0
+      ∷ R .headCode (headOf (R .sizes) m)
+      ∷ first (map (λ f. f .fault) (foundIn m))
+      ∷ R .footCode (length (foundIn m)) (total (foundIn m)) (footOf (R .sizes) m)
+      ∷ [])
+
+  -- positions 10-34 as they stand, once a head with its right ending was read; else spaces
+  unfoldable pub identifier : List ℕ → List ℕ
+  identifier m = cond (headStands (R .sizes) m) (idOf (headOf (R .sizes) m)) noId
+
+  -- more complete items before any break than the table has bytes
+  abbrev pub overflows : List ℕ → List ℕ → Bool
+  overflows t m = ltb (length t) (length (foundIn m))
+
+  -- the verdict; overflow comes first, and a code other than 00 has no numbers
+  unfoldable pub verdict : List ℕ → List ℕ → Verdict
+  verdict t m =
+      cond (overflows t m)
+      (blank 6 0 noId)
+      (cond (eqb (messageCode m) 0)
+      (counted (foundIn m) (identifier m))
+      (blank 0 (messageCode m) (identifier m)))
+
+  -- the table afterwards: the items' codes, each in its own byte, and the other bytes as they were
+  unfoldable pub tableAfter : List ℕ → List ℕ → List ℕ
+  tableAfter t m = take (length t) (map (λ f. f .code) (foundIn m) ++ drop (length (foundIn m)) t)

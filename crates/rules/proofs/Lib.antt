@@ -1,0 +1,13 @@
+pub mod Numbers
+pub mod Row
+pub mod ByKind
+pub mod Tables
+pub mod Naming
+pub mod Byte
+pub mod Dates
+pub mod Ranked
+pub mod Named
+pub mod HeadSmall
+pub mod Bounds
+pub mod Totals
+pub mod Instance

@@ -1,0 +1,6 @@
+pub mod Refusals
+pub mod Fields
+pub mod Codes
+pub mod Single
+pub mod Items
+pub mod Examples
