@@ -13,7 +13,7 @@ use borrow.Author.Tests.{leb-true, leb-false, eq-eqb, ne-eqb, lt-ltb, le-ltb, lt
 use Rattle.frame.specs.declared.Found.{Found}
 use Rattle.frame.specs.Records.{Sizes, noId, idOf, ended, footStands, itemsIn, restAfter, headOf, itemsOf, restOf, footOf, isBroken}
 use Rattle.frame.specs.Verdict.{Rules, Verdict, first, any, accepted, refused, total, watched, blank, counted, findings, foundIn, messageCode, identifier, overflows, verdict, tableAfter}
-use Rattle.frame.specs.Machine.{State, fresh, at, items, sum, earlier, headRead, footRead, run, closing}
+use Rattle.frame.specs.Machine.{State, fresh, at, items, sum, earlier, headRead, footRead, run, closing, runs, joined}
 use Rattle.frame.proofs.Pieces.{run-append}
 use Rattle.frame.proofs.Tally.{tally, findings-length, tally-phase, tally-held, tally-id, tally-letter, tally-code, tally-accepted, tally-accepted-sum, tally-refused, tally-refused-sum, tally-zeros, tally-items, tally-sum, tally-table, earlier-assoc, none-earlier, map-take, findings-take}
 use Rattle.frame.proofs.Uncut.{Ends, ended-long, rest-ends, rest-no-item, run-items, run-over, head-first, headless}
@@ -288,15 +288,6 @@ uncut R t m = go (ended (R .sizes .head) m) refl
     go : (b : Bool) → ended (R .sizes .head) m ≡ b → Ends (run R (fresh t) m) (verdict R t m) (tableAfter R t m)
     go true e = head-ends R t m e
     go false e = headless R t m e
-
--- pieces one after the other
-unfoldable pub runs : Rules → State → List (List ℕ) → State
-runs R s [] = s
-runs R s (p ∷ ps) = runs R (run R s p) ps
-
-unfoldable pub joined : List (List ℕ) → List ℕ
-joined [] = []
-joined (p ∷ ps) = p ++ joined ps
 
 runs-joined : (R : Rules) (s : State) (ps : List (List ℕ)) → runs R s ps ≡ run R s (joined ps)
 unfolding runs joined run

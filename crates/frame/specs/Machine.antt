@@ -157,6 +157,16 @@ module _ (R : Rules) where
   run s [] = s
   run s (b ∷ bs) = run (step s b) bs
 
+-- pieces one after the other
+unfoldable pub runs : Rules → State → List (List ℕ) → State
+runs R s [] = s
+runs R s (p ∷ ps) = runs R (run R s p) ps
+
+-- the uncut message
+unfoldable pub joined : List (List ℕ) → List ℕ
+joined [] = []
+joined (p ∷ ps) = p ++ joined ps
+
 -- what closing says of a state
 unfoldable pub closing : State → Verdict
 closing s =

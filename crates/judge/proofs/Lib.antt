@@ -1,0 +1,6 @@
+pub mod Held
+pub mod Tallies
+pub mod Valid
+pub mod Turn
+pub mod Ranges
+pub mod Great

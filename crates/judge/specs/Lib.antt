@@ -1,0 +1,3 @@
+pub mod Session
+pub mod Reading
+pub mod Feeding
