@@ -14,6 +14,7 @@ use Rattle.frame.specs.Records.{noId}
 use Rattle.frame.specs.Verdict.{Rules, Verdict, verdict, tableAfter}
 use Rattle.frame.specs.Machine.{State, fresh, size, run, closing}
 use Rattle.rules.specs.Codes.{rules}
+use Rattle.rules.specs.Refusals.{refusalNumber}
 use Rattle.rules.specs.declared.refusal.Refusal.{Refusal}
 use Rattle.rules.specs.declared.refusal.Refusal.the-variants as refusal
 use Rattle.judge.specs.declared.Totals.{Totals}
@@ -117,6 +118,11 @@ closedSession =
       fill = 0;
       held = replicate 251 0;
     }
+
+-- the number of an outcome: 0, or the refusal's in 01
+abbrev pub outcomeNumber : Outcome → ℕ
+outcomeNumber Done = 0
+outcomeNumber (Refused r) = refusalNumber r
 
 abbrev pub give : Outcome → Session → Taken
 give o s = record { outcome = o; next = s }

@@ -1,4 +1,5 @@
 pub mod Refusals
+pub mod Answers
 pub mod Fields
 pub mod Codes
 pub mod Single
