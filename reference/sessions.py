@@ -3,13 +3,8 @@
     python3 reference/sessions.py < crates/sessions/stdin
 
 Written from document 01 and the standard 002 alone, not from the code that is
-held to it. Each input line ends with 0Ah and is a command letter, a space and
-the rest as raw bytes:
+held to it. Comments, E and the lists are those of script.py; and:
 
-    #   a comment, echoed whole
-    e   E, eight digits
-    b   the bank list, ten digits a number, end to end
-    k   the known list
     t   the code table's length, five digits
     m   empties the message
     +   appends the bytes and 0Dh 0Ah to the message
@@ -21,12 +16,14 @@ the rest as raw bytes:
 Only # and j print. A j line has the answer, `refused` and its number or `done`,
 code, five numbers and identifier; then the table afterwards: how many bytes
 aren't 255, their sum, the table's first byte and the last of those (0 where
-there is none); then three flags.
+there is none); then four flags.
 
-The flags say whether the same message read by pieces of 1,000 bytes, cut in two
-at every place, and byte by byte gives the same answer and table. 01 demands it,
-so each is 1. The last two aren't tried on more than 1,000 bytes, and none where
-the opening is refused: there they are `-`.
+The first three say whether the same message read by pieces of 1,000 bytes, cut in
+two at every place, and byte by byte gives the same answer and table. The fourth
+says whether pieces that are refused with 5, 2, 3 and 4 leave the table and the
+session as they were, so that it then gives that answer too. 01 demands all of
+it, so each is 1. What isn't tried is `-`: the last three on more than 1,000
+bytes, the fourth where a list is refused, and all where the opening is.
 """
 
 import sys
@@ -34,13 +31,9 @@ import sys
 sys.dont_write_bytecode = True  # no folder of compiled files beside the sources
 
 import message
+import script
 
 UNTOUCHED = 255
-
-
-def cut_numbers(rest):
-    """Numbers of ten digits each."""
-    return [int(rest[i : i + 10]) for i in range(0, len(rest), 10)]
 
 
 def repeated(count, item):
@@ -77,19 +70,9 @@ def judged(text, day, banks, known, length):
 
 
 def main():
-    day, banks, known, length, text = 0, [], b"", 0, b""
-    for line in sys.stdin.buffer:
-        line = line.removesuffix(b"\n")
-        command, rest = line[:1], line[2:]
-        if command == b"#":
-            sys.stdout.buffer.write(line + b"\n")
-        elif command == b"e":
-            day = int(rest)
-        elif command == b"b":
-            banks = cut_numbers(rest)
-        elif command == b"k":
-            known = rest
-        elif command == b"t":
+    length, text = 0, b""
+    for command, rest, given in script.commands():
+        if command == b"t":
             length = int(rest)
         elif command == b"m":
             text = b""
@@ -100,8 +83,7 @@ def main():
         elif command == b"*":
             text += repeated(int(rest[:6]), rest[6:])
         elif command == b"j":
-            answer = judged(text, day, banks, known, length)
-            sys.stdout.buffer.write(b"j " + answer + b"\n")
+            sys.stdout.buffer.write(b"j " + judged(text, *given, length) + b"\n")
         else:
             raise ValueError(command)
 
