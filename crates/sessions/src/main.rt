@@ -373,7 +373,7 @@ fn put_unmoved(
     put_flag(is_unmoved(a, message, day, banks, known, table, kept));
 }
 
-// The three flags: pieces of 1,000 bytes, every cut in two, byte by byte.
+// The four flags: pieces of 1,000 bytes, every cut in two, byte by byte, after refused pieces.
 fn put_flags(
     a: Answer,
     message: &[u8],
