@@ -96,6 +96,11 @@ def write_number(width, value, out):
 # Text
 
 
+def put(text, out):
+    """The text over the first bytes, where there is room; the other bytes stay."""
+    return [True, text + out[len(text) :]] if len(text) <= len(out) else [False, out]
+
+
 def is_text(byte):
     """01 "Faults of the whole message" 2; 002 annex 11."""
     return 0x20 <= byte <= 0x7E or bytes([byte]).decode("cp852") in LETTERS
@@ -169,8 +174,11 @@ def answers(command, rest):
         return [account(rest), account_zero(rest)]
     if command == b"n":
         return write_number(int(rest[:2]), int(rest[2:22]), rest[22:])
+    if command == b"x":
+        count = 2 + int(rest[:2])
+        return put(rest[2:count], rest[count:])
     if command == b"t":
-        return [all(map(is_text, rest)), only(rest, b" "), only(rest, b" 0")]
+        return [all(map(is_text, rest)), all(0x20 <= b <= 0x7E for b in rest), only(rest, b" "), only(rest, b" 0")]
     if command == b"T":
         return [b"".join(b"1" if is_text(byte) else b"0" for byte in range(256))]
     if command == b"f":

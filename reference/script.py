@@ -1,4 +1,4 @@
-"""What the scripts of faults.py and sessions.py have in common.
+"""What the scripts of faults.py, sessions.py and replies.py have in common.
 
 Each line ends with 0Ah and is a command letter, a space and the rest as raw
 bytes:
@@ -8,7 +8,14 @@ bytes:
     b   the bank list, ten digits a number, end to end
     k   the known list
 
-`e`, `b` and `k` hold until the next one and print nothing.
+`e`, `b` and `k` hold until the next one and print nothing. Lines that build a
+message, in sessions.py and replies.py, print nothing either:
+
+    m   empties the message
+    +   appends the bytes and 0Dh 0Ah to the message
+    -   appends the bytes alone
+    *   six digits N, an item: appends it N times with 0Dh 0Ah, positions 3-8
+        replaced by 000001, 000002 and so on
 """
 
 import sys
@@ -35,3 +42,21 @@ def commands():
             known = rest
         else:
             yield command, rest, (day, banks, known)
+
+
+def repeated(count, item):
+    """The item this many times, with its place as number and the ending."""
+    return b"".join(item[:2] + b"%06d" % k + item[8:] + b"\r\n" for k in range(1, count + 1))
+
+
+def built(text, command, rest):
+    """The message after a line that builds it."""
+    if command == b"m":
+        return b""
+    if command == b"+":
+        return text + rest + b"\r\n"
+    if command == b"-":
+        return text + rest
+    if command == b"*":
+        return text + repeated(int(rest[:6]), rest[6:])
+    raise ValueError(command)

@@ -3,14 +3,9 @@
     python3 reference/sessions.py < crates/sessions/stdin
 
 Written from document 01 and the standard 002 alone, not from the code that is
-held to it. Comments, E and the lists are those of script.py; and:
+held to it. Comments, E, the lists and the message are those of script.py; and:
 
     t   the code table's length, five digits
-    m   empties the message
-    +   appends the bytes and 0Dh 0Ah to the message
-    -   appends the bytes alone
-    *   six digits N, an item: appends it N times with 0Dh 0Ah, positions 3-8
-        replaced by 000001, 000002 and so on
     j   judges the message in a table whose bytes are all 255 before
 
 Only # and j print. A j line has the answer, `refused` and its number or `done`,
@@ -34,11 +29,6 @@ import message
 import script
 
 UNTOUCHED = 255
-
-
-def repeated(count, item):
-    """The item this many times, with its place as number and the ending."""
-    return b"".join(item[:2] + b"%06d" % k + item[8:] + b"\r\n" for k in range(1, count + 1))
 
 
 def table_summary(table):
@@ -74,18 +64,10 @@ def main():
     for command, rest, given in script.commands():
         if command == b"t":
             length = int(rest)
-        elif command == b"m":
-            text = b""
-        elif command == b"+":
-            text += rest + b"\r\n"
-        elif command == b"-":
-            text += rest
-        elif command == b"*":
-            text += repeated(int(rest[:6]), rest[6:])
         elif command == b"j":
             sys.stdout.buffer.write(b"j " + judged(text, *given, length) + b"\n")
         else:
-            raise ValueError(command)
+            text = script.built(text, command, rest)
 
 
 if __name__ == "__main__":

@@ -2,3 +2,4 @@ pub mod Walk
 pub mod Every
 pub mod Parts
 pub mod Same
+pub mod Over

@@ -95,8 +95,27 @@ fn written(space: &mut [u8], s: &[u8]) {
     put(&space[0..count]);
 }
 
+// Bytes put over the front of those after them; two digits say how many.
+fn put_over(space: &mut [u8], s: &[u8]) {
+    if s.len() < 2 {
+        return;
+    }
+    let end = 2 + digits::number(&s[0..2]) as usize % 100;
+    if s.len() < end {
+        return;
+    }
+    let count = s.len() - end;
+    if count > space.len() {
+        return;
+    }
+    copy(&mut space[0..count], s, end);
+    put_flag(text::put(&mut space[0..count], &s[2..end]));
+    put(b" ");
+    put(&space[0..count]);
+}
+
 fn text_field(s: &[u8]) {
-    put_flag(text::is_text(s));
+    put_two(text::is_text(s), text::is_plain(s));
     put(b" ");
     put_two(text::is_blank(s), text::is_blank_or_zero(s));
 }
@@ -213,6 +232,7 @@ fn answer(command: u8, s: &[u8]) {
         b'e' => put_flag(digits::check::is_ean13(s)),
         b'a' => account(s),
         b'n' => written(&mut bytes, s),
+        b'x' => put_over(&mut bytes, s),
         b't' => text_field(s),
         b'T' => every_byte(),
         b'f' => date_field(s),

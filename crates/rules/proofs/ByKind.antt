@@ -8,10 +8,10 @@ use Rattle.rules.specs.declared.finding.Kind.the-variants.{Letter, Mark,
 use Rattle.rules.specs.declared.finding.Finding.{Finding}
 use Rattle.rules.specs.declared.finding.Finding.the-variants.{Right, Fault}
 use Rattle.rules.specs.Codes.{Code, Ü, T, always, digitsElse, whole, alone, wholeCode, itemCode}
-use Rattle.rules.specs.Items.{ofKind, eitherCode}
+use Rattle.rules.specs.Items.{eitherCode}
 
 -- what is said of both codes is said of the one that the kind has
-of-both : (P : ℕ → Type 0) (c d : ℕ) → P c → P d → (k : Kind) → P (ofKind c d k)
+of-both : (P : ℕ → Type 0) (c d : ℕ) → P c → P d → (k : Kind) → P (digitsElse c d k)
 of-both P c d p q Letter = q
 of-both P c d p q Mark = q
 of-both P c d p q Form = q
@@ -26,7 +26,7 @@ of-both P c d p q OutOfOrder = q
 of-both P c d p q Other = q
 
 -- the number of a code, by the kind
-by-kind : (h : Code → ℕ) (x y : Code) (k : Kind) → h (digitsElse x y k) ≡ ofKind (h x) (h y) k
+by-kind : (h : Code → ℕ) (x y : Code) (k : Kind) → h (digitsElse x y k) ≡ digitsElse (h x) (h y) k
 by-kind h x y Letter = refl
 by-kind h x y Mark = refl
 by-kind h x y Form = refl

@@ -42,7 +42,7 @@ abbrev pub always : Code → Kind → Code
 always c k = c
 
 -- one code for what isn't digits, another for the rest
-abbrev pub digitsElse : Code → Code → Kind → Code
+abbrev pub digitsElse : {A : Type 0} → A → A → Kind → A
 digitsElse c d Letter = d
 digitsElse c d Mark = d
 digitsElse c d Form = d

@@ -1,10 +1,11 @@
 -- Which bytes are text, and fields that say nothing.
 -- Assumes nothing.
 use Prim.Native.Nat.{ℕ}
-use mathlib.Core.Bool.{Bool, true, false, _&&_, _||_}
+use mathlib.Core.Bool.{Bool, true, false, cond, _&&_, _||_}
 use mathlib.Core.List.{List, [], _∷_}
 use lib.Dec.{leb, eqb}
-use Rattle.base.specs.Bytes.{every}
+use lib.ListN.{length}
+use Rattle.base.specs.Bytes.{every, over}
 
 -- b is one of the list
 abbrev pub oneOf : List ℕ → ℕ → Bool
@@ -32,6 +33,10 @@ space b = eqb b 0x20
 abbrev pub spaceOrZero : ℕ → Bool
 spaceOrZero b = eqb b 0x20 || eqb b 0x30
 
+-- each byte is 20h to 7Eh
+abbrev pub isPlain : List ℕ → Bool
+isPlain = every plain
+
 -- each byte may stand in text
 abbrev pub isText : List ℕ → Bool
 isText = every letter
@@ -43,3 +48,7 @@ isBlank = every space
 -- each byte is a space or a zero
 abbrev pub isBlankOrZero : List ℕ → Bool
 isBlankOrZero = every spaceOrZero
+
+-- the list with s over its front, where there is room; else the list as it was
+unfoldable pub withBytes : List ℕ → List ℕ → List ℕ
+withBytes xs s = cond (leb (length s) (length xs)) (over xs 0 s) xs

@@ -1,11 +1,12 @@
-// Text fields: the letters of code page 852 that a message may hold, fields of spaces, fields of spaces and zeros.
+// Text fields: the letters of code page 852 that a message may hold, fields of spaces, fields of spaces and zeros; putting text.
 ghost use mathlib.Core.Path.{_≡_};
-ghost use Rattle.base.specs.Bytes.{every};
-ghost use Rattle.text.specs.Text.{plain, letter, space, spaceOrZero, isText, isBlank, isBlankOrZero};
+ghost use lib.Dec.{leb};
+ghost use lib.ListN.{length};
+ghost use Rattle.text.specs.Text.{letter, isPlain, isText, isBlank, isBlankOrZero, withBytes};
 
-// Each byte is 20h to 7Eh. No branch on a byte, so that the compiler takes many at a time.
-fn all_plain(s: &[u8]) -> bool
-    ensures { λ r. ⌜ r ≡ every plain (now (s .entry)) ⌝ }
+// Each byte is 20h to 7Eh (01, refusal 7). No branch on a byte, so that the compiler takes many at a time.
+pub fn is_plain(s: &[u8]) -> bool
+    ensures { λ r. ⌜ r ≡ isPlain (now (s .entry)) ⌝ }
 {
     let mut ok = true;
     let mut i = 0;
@@ -59,7 +60,7 @@ fn all_letters(s: &[u8]) -> bool
 pub fn is_text(s: &[u8]) -> bool
     ensures { λ r. ⌜ r ≡ isText (now (s .entry)) ⌝ }
 {
-    if all_plain(s) {
+    if is_plain(s) {
         return true;
     }
     all_letters(s)
@@ -89,6 +90,22 @@ pub fn is_blank_or_zero(s: &[u8]) -> bool
         if !((b == b' ') | (b == b'0')) {
             return false;
         }
+        i += 1;
+    }
+    true
+}
+
+// The bytes at the front of what is lent. Where it is shorter, the answer is false and nothing is written.
+pub fn put(out: &mut [u8], s: &[u8]) -> bool
+    ensures answer { λ r. ⌜ r ≡ leb (length (now (s .entry))) (length (now (out .entry))) ⌝ }
+    ensures bytes { λ _. ⌜ now (out .exit) ≡ withBytes (now (out .entry)) (now (s .entry)) ⌝ }
+{
+    if out.len() < s.len() {
+        return false;
+    }
+    let mut i = 0;
+    while i < s.len() {
+        out[i] = s[i];
         i += 1;
     }
     true

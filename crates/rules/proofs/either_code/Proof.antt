@@ -5,7 +5,8 @@ use Prim.Native.Nat.{ℕ}
 use mathlib.Core.List.{List, [], _∷_}
 use types.Run.{OneOf, miss}
 use denote.Enum.Declared.{tagOf}
-use Rattle.rules.specs.Items.{ofKind, eitherCode}
+use Rattle.rules.specs.Codes.{digitsElse}
+use Rattle.rules.specs.Items.{eitherCode}
 use Rattle.rules.specs.declared.finding.Kind.{Kind}
 use Rattle.rules.proofs.finding.Kind.{the-type}
 use Rattle.rules.specs.declared.finding.Kind.the-variants.{Letter, Mark, Form, NotDigits, CheckDigit, NoDate, OutsideDays, NotListed, Known, BlankOrZero, OutOfOrder, Other}
@@ -17,7 +18,7 @@ use Rattle.rules.proofs.either_code.Tie as tie
 abbrev others : List ℕ
 others = 0 ∷ 1 ∷ 2 ∷ 4 ∷ 5 ∷ 6 ∷ 7 ∷ 8 ∷ 9 ∷ 10 ∷ 11 ∷ []
 
-other : (c d : ℕ) (k : Kind) → OneOf others (tagOf the-type k) → d ≡ ofKind c d k
+other : (c d : ℕ) (k : Kind) → OneOf others (tagOf the-type k) → d ≡ digitsElse c d k
 other c d Letter h = refl
 other c d Mark h = refl
 other c d Form h = refl

@@ -12,11 +12,11 @@ use Rattle.text.proofs.is_text.Tie as tie
 plain-letter : (b : ℕ) → plain b ≡ true → letter b ≡ true
 plain-letter b e = simp e
 
-all-plain-requires : tie.Need-all-plain-requires
-all-plain-requires c κs = search needs
+is-plain-requires : tie.Need-is-plain-requires
+is-plain-requires c κs = search needs
 
 returns : tie.Need-returns
-returns c = sym (weaker plain letter plain-letter (c .before .before .before .args .s .now) (sym (c .before .all-plain .ensures) ∙ c .if1 .taken))
+returns c = sym (weaker plain letter plain-letter (c .before .before .before .args .s .now) (sym (c .before .is-plain .ensures) ∙ c .if1 .taken))
 
 all-letters-requires : tie.Need-all-letters-requires
 all-letters-requires c κs = search needs
@@ -25,4 +25,4 @@ returns-2 : tie.Need-returns-2
 returns-2 c = search needs
 
 pub is-text-spec : {M : Type 1} → statement M
-is-text-spec = tie.close (tie.spec all-plain-requires returns all-letters-requires returns-2)
+is-text-spec = tie.close (tie.spec is-plain-requires returns all-letters-requires returns-2)

@@ -1,4 +1,4 @@
--- `text::all_plain` meets its contract: the bytes passed are all 20h to 7Eh exactly when `ok`.
+-- `text::is_plain` meets its contract: the bytes passed are all 20h to 7Eh exactly when `ok`.
 -- Assumes nothing.
 use mathlib.Core.Path.{refl}
 use lib.ListN.{length}
@@ -6,8 +6,8 @@ use Prim.Native.Nat.{_-_}
 use Rattle.base.proofs.Every.{Passed, start, on, ends}
 use Rattle.text.specs.Text.{plain}
 use borrow.Author.Needs.{needs}
-use Rattle.text.proofs.all_plain.Statement.{statement}
-use Rattle.text.proofs.all_plain.Tie as tie
+use Rattle.text.proofs.is_plain.Statement.{statement}
+use Rattle.text.proofs.is_plain.Tie as tie
 
 abbrev Inv-loop : tie.InvT-loop
 Inv-loop s ok₀ i₀ ok i = Passed plain s ok i
@@ -33,7 +33,7 @@ loop-again c = on (c .before .before .loop .inv) (c .before .loop-test .taken) _
 returns : tie.Need-returns Inv-loop μ-loop
 returns c = ends (c .before .loop .inv) (c .loop-test .left)
 
-pub all-plain-spec : {M : Type 1} → statement M
-all-plain-spec =
+pub is-plain-spec : {M : Type 1} → statement M
+is-plain-spec =
     tie.close
     (tie.spec Inv-loop μ-loop loop-holds shared-slice-read-b add-i loop-less loop-again returns)

@@ -1,0 +1,76 @@
+-- `status::reply::put_head` meets its contract: two parts, one after the other.
+-- Assumes nothing.
+use mathlib.Core.Path.{_≡_, refl, ap, _∙_}
+use mathlib.Core.List.{List, [], _∷_, _++_, append-assoc}
+use Prim.Native.Nat.{ℕ, _-_, _≤_}
+use native.Mathlib.Omega.{arith}
+use lib.ListN.{length, take, drop, length-append}
+use borrow.Rule.Slice.PartMut.{putMid}
+use Rattle.base.specs.Bytes.{ascii, over}
+use Rattle.digits.specs.Digits.{figures}
+use Rattle.digits.proofs.Figures.{figures-length}
+use Rattle.status.specs.declared.Status.{Status}
+use Rattle.status.specs.Records.{ending, headRecord}
+use Rattle.status.specs.Writing.{address, own}
+use Rattle.status.proofs.Put.{first, after}
+use borrow.Author.Needs.{needs}
+use Rattle.status.proofs.reply.put_head.Statement.{statement}
+use Rattle.status.proofs.reply.put_head.Tie as tie
+
+address-length : (d : ℕ) (id : List ℕ) → length id ≡ 25 → length (address d id) ≡ 34
+unfolding address
+address-length d id l = rw l
+
+own-length : (s : Status) → length (own s) ≡ 22
+unfolding own
+own-length s = simp (length-append, figures-length)
+
+both : (s : Status) → address (s .duplicate) (s .id) ++ own s ≡ headRecord s
+unfolding headRecord address own
+both s = simp append-assoc
+
+written : (xs : List ℕ) (s : Status) (y z : List ℕ) → 56 ≤ length xs → length (s .id) ≡ 25
+    → y ≡ over xs 0 (address (s .duplicate) (s .id)) → z ≡ over (take (length y - 34) (drop 34 y)) 0 (own s)
+    → putMid 34 (length y - 34) y z ≡ over xs 0 (headRecord s)
+written xs s y z h l e f =
+    let a = address-length (s .duplicate) (s .id) l in
+    let p = first xs (address (s .duplicate) (s .id)) y 34 e a in
+    let q = after p (own s) z 22 (own-length s) h f in
+    q .is ∙ ap (over xs 0) (both s)
+
+slice-aggregate-put-address : tie.Need-slice-aggregate-put-address
+slice-aggregate-put-address c = search needs
+
+put-address-requires : tie.Need-put-address-requires
+put-address-requires c κs = search needs
+
+sub-put-own : tie.Need-sub-put-own
+sub-put-own c = search needs
+
+part-put-own-start : tie.Need-part-put-own-start
+part-put-own-start c = search needs
+
+part-put-own-end : tie.Need-part-put-own-end
+part-put-own-end c = search needs
+
+put-own-requires : tie.Need-put-own-requires
+put-own-requires c κs = search needs
+
+same-length : tie.Need-same-length
+same-length c = search needs
+
+returns : tie.Need-returns
+returns c = written (c .before .before .before .before .before .before .before .before .before .before .before .args .out .now) (c .before .before .before .before .before .before .before .before .before .before .before .args .s) _ _ (c .before .before .before .before .before .before .before .before .before .before .before .pre .0) (search needs) (c .before .before .before .before .before .before .put-address .ensures) (c .before .before .put-own .ensures)
+
+pub put-head-spec : {M : Type 1} → statement M
+put-head-spec =
+    tie.close
+    (tie.spec
+    slice-aggregate-put-address
+    put-address-requires
+    sub-put-own
+    part-put-own-start
+    part-put-own-end
+    put-own-requires
+    same-length
+    returns)

@@ -1,0 +1,168 @@
+-- `status::reply::put_references` meets its contract: the references of the items passed stand over the front.
+-- Assumes nothing.
+use mathlib.Core.Path.{_≡_, refl, sym, ap, _∙_}
+use mathlib.Core.List.{List, [], _++_}
+use Prim.Native.Nat.{ℕ, suc, _+_, _-_, _*_, _^_, _≤_, _<_}
+use native.Mathlib.Nat.{add-comm}
+use native.Mathlib.Numerals.{add-one}
+use native.Mathlib.Omega.{arith}
+use lib.ListN.{length, getD, take, drop, length-drop}
+use lib.Seq.{length-take-le}
+use borrow.Rule.Slice.PartMut.{putMid}
+use borrow.Author.Needs.{needs}
+use Rattle.base.specs.Bytes.{over}
+use Rattle.base.proofs.Parts.{part-length}
+use Rattle.frame.specs.Records.{atutal, itemsOf}
+use Rattle.status.specs.Records.{reference, references}
+use Rattle.status.specs.Writing.{Referable}
+use Rattle.base.proofs.Over.{part, over-none, length-over}
+use Rattle.status.proofs.Put.{Put, first, next}
+use Rattle.status.proofs.Lengths.{reference-length}
+use Rattle.status.proofs.References.{none, references-snoc, placed}
+use Rattle.status.proofs.reply.put_references.Statement.{statement}
+use Rattle.status.proofs.reply.put_references.Tie as tie
+
+record Writing (xs m cs : List ℕ) (n : ℕ) (ys : List ℕ) (i : ℕ) : Type 0 where
+  within : i ≤ n
+  room : n * 65 ≤ length xs
+  ok : Referable m cs n
+  put : Put xs (i * 65) (references 1 cs (take i (itemsOf atutal m))) ys
+
+start : (xs m cs : List ℕ) (n : ℕ) → n * 65 ≤ length xs → Referable m cs n → Writing xs m cs n xs 0
+start xs m cs n h ok = record { within = omega arith; room = h; ok = ok; put = record { is = sym (over-none xs 0) ∙ ap (over xs 0) (sym (none 1 cs)); long = ap length (none 1 cs) } }
+
+module _ {xs m cs : List ℕ} {n : ℕ} {ys : List ℕ} {i : ℕ} (w : Writing xs m cs n ys i) where
+  long : length ys ≡ length xs
+  long = ap length (w .put .is) ∙ length-over xs 0 (references 1 cs (take i (itemsOf atutal m))) (omega (arith, w .within, w .room, w .put .long))
+
+  ends : n ≤ i → ys ≡ over xs 0 (references 1 cs (take n (itemsOf atutal m)))
+  ends h =
+      let e : i ≡ n = omega (arith, w .within) in
+      w .put .is ∙ ap (λ (j : ℕ). over xs 0 (references 1 cs (take j (itemsOf atutal m)))) e
+
+  module _ (h : i < n) where
+    few : i < 10000
+    few = omega (arith, w .ok .most)
+
+    fits : i * 65 + 65 ≤ length ys
+    fits = omega (arith, w .room, long)
+
+    stands : 176 + i * 251 + 251 ≤ length m
+    stands = placed m i (omega (arith, w .ok .items)) .long
+
+    coded : i < length cs
+    coded = omega (arith, w .ok .codes)
+
+    asked : (65 ≤ length (take (length ys - i * 65) (drop (i * 65) ys)))
+        × (length (take (176 + i * 251 + 249 - (176 + i * 251)) (drop (176 + i * 251) m)) ≡ 249) × (i + 1 < 10 ^ 6) × (getD cs i 0 < 10 ^ 2)
+    asked =
+        let a = length-take-le (length ys - i * 65) (drop (i * 65) ys) (omega (arith, length-drop (i * 65) ys)) in
+        let b = part-length m (176 + i * 251) (176 + i * 251 + 249) (omega arith) (omega (arith, stands)) in
+        (omega (arith, a, fits), b ∙ omega arith, omega (arith, few), w .ok .small i h)
+
+    on : (zs : List ℕ) → zs ≡ over (take (length ys - i * 65) (drop (i * 65) ys)) 0 (reference (i + 1) (getD cs i 0) (take (176 + i * 251 + 249 - (176 + i * 251)) (drop (176 + i * 251) m)))
+        → Writing xs m cs n (putMid (i * 65) (length ys - i * 65) ys zs) (i + 1)
+    on zs e =
+        let p = placed m i (omega (arith, w .ok .items)) in
+        let d : 176 + i * 251 + 249 - (176 + i * 251) ≡ 249 = omega arith in
+        let r = take 249 (drop (176 + i * 251) m) in
+        let l : length r ≡ 249 = length-take-le 249 (drop (176 + i * 251) m) (omega (arith, p .long, length-drop (176 + i * 251) m)) in
+        let k = reference-length (i + 1) (getD cs i 0) r l in
+        let f = part ys (i * 65) (reference (i + 1) (getD cs i 0) r) zs (omega (arith, fits, k)) (rw d at e) in
+        let q = next (w .put) (reference (i + 1) (getD cs i 0) r) (putMid (i * 65) (length ys - i * 65) ys zs) 65 k (omega (arith, fits, long)) f in
+        let s : references 1 cs (take i (itemsOf atutal m)) ++ reference (i + 1) (getD cs i 0) r ≡ references 1 cs (take (i + 1) (itemsOf atutal m)) =
+        ap (λ (n : ℕ). references 1 cs (take i (itemsOf atutal m)) ++ reference n (getD cs i 0) r) (add-comm i 1)
+        ∙ ap (λ (x : List ℕ). references 1 cs (take i (itemsOf atutal m)) ++ reference (1 + i) (getD cs i 0) x) (sym (p .bytes))
+        ∙ sym (references-snoc 1 cs (itemsOf atutal m) i coded (omega (arith, w .ok .items)))
+        ∙ ap (λ (n : ℕ). references 1 cs (take n (itemsOf atutal m))) (sym (add-one i)) in
+        let t : i * 65 + 65 ≡ (i + 1) * 65 = omega arith in
+        record { within = omega arith; room = w .room; ok = w .ok; put = rw (s, t) at q }
+
+abbrev Inv-loop : tie.InvT-loop
+Inv-loop out₀ message codes n i₀ out i = Writing out₀ message codes n out i
+
+abbrev μ-loop : tie.MeasureT-loop
+μ-loop out₀ message codes n i₀ out i = n - i
+
+loop-holds : tie.Need-loop-holds Inv-loop μ-loop
+loop-holds c = start (c .before .before .before .args .out .now) (c .before .before .before .args .message .now) (c .before .before .before .args .codes .now) (c .before .before .before .args .n) (c .before .before .before .pre .1) (c .before .before .before .pre .0)
+
+mul-at : tie.Need-mul-at Inv-loop μ-loop
+mul-at c = search needs
+
+mul-from : tie.Need-mul-from Inv-loop μ-loop
+mul-from c = search needs
+
+add-from : tie.Need-add-from Inv-loop μ-loop
+add-from c = search needs
+
+add-end : tie.Need-add-end Inv-loop μ-loop
+add-end c = search needs
+
+sub-put-reference : tie.Need-sub-put-reference Inv-loop μ-loop
+sub-put-reference c = omega (arith, fits (c .before .loop .inv) (c .loop-test .taken))
+
+part-put-reference-start : tie.Need-part-put-reference-start Inv-loop μ-loop
+part-put-reference-start c = omega (arith, fits (c .before .loop .inv) (c .loop-test .taken))
+
+part-put-reference-end : tie.Need-part-put-reference-end Inv-loop μ-loop
+part-put-reference-end c = search needs
+
+add-put-reference : tie.Need-add-put-reference Inv-loop μ-loop
+add-put-reference c = search needs
+
+shared-slice-read-put-reference : tie.Need-shared-slice-read-put-reference Inv-loop μ-loop
+shared-slice-read-put-reference c = search needs
+
+sub-put-reference-2 : tie.Need-sub-put-reference-2 Inv-loop μ-loop
+sub-put-reference-2 c = search needs
+
+part-put-reference-start-2 : tie.Need-part-put-reference-start-2 Inv-loop μ-loop
+part-put-reference-start-2 c = search needs
+
+part-put-reference-end-2 : tie.Need-part-put-reference-end-2 Inv-loop μ-loop
+part-put-reference-end-2 c = omega (arith, stands (c .before .before .before .loop .inv) (c .before .before .loop-test .taken))
+
+put-reference-requires : tie.Need-put-reference-requires Inv-loop μ-loop
+put-reference-requires c κs = asked (c .before .before .before .before .loop .inv) (c .before .before .before .loop-test .taken)
+
+add-i : tie.Need-add-i Inv-loop μ-loop
+add-i c = search needs
+
+loop-less : tie.Need-loop-less Inv-loop μ-loop
+loop-less c = search needs
+
+loop-again : tie.Need-loop-again Inv-loop μ-loop
+loop-again c = on (c .before .before .before .before .before .before .before .loop .inv) (c .before .before .before .before .before .before .loop-test .taken) _ (c .before .before .put-reference .ensures)
+
+same-length : tie.Need-same-length Inv-loop μ-loop
+same-length c = long (c .before .loop .inv)
+
+returns : tie.Need-returns Inv-loop μ-loop
+returns c = ends (c .before .loop .inv) (c .loop-test .left)
+
+pub put-references-spec : {M : Type 1} → statement M
+put-references-spec =
+    tie.close
+    (tie.spec
+    Inv-loop
+    μ-loop
+    loop-holds
+    mul-at
+    mul-from
+    add-from
+    add-end
+    sub-put-reference
+    part-put-reference-start
+    part-put-reference-end
+    add-put-reference
+    shared-slice-read-put-reference
+    sub-put-reference-2
+    part-put-reference-start-2
+    part-put-reference-end-2
+    put-reference-requires
+    add-i
+    loop-less
+    loop-again
+    same-length
+    returns)

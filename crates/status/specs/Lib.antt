@@ -1,0 +1,4 @@
+pub mod Records
+pub mod Reply
+pub mod Writing
+pub mod Examples

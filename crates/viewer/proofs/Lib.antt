@@ -1,0 +1,4 @@
+pub mod Held
+pub mod Walk
+pub mod Onward
+pub mod Views
