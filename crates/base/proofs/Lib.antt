@@ -3,3 +3,5 @@ pub mod Every
 pub mod Parts
 pub mod Same
 pub mod Over
+pub mod Put
+pub mod Written

@@ -1,0 +1,49 @@
+-- `desk::feed` meets its contract: it goes by the outcome before.
+-- Assumes nothing.
+use mathlib.Core.Path.{_≡_}
+use mathlib.Core.List.{List}
+use Prim.Native.Nat.{ℕ}
+use Rattle.rules.specs.declared.refusal.Refusal.{Refusal}
+use Rattle.judge.specs.declared.Outcome.the-variants.{Done, Refused}
+use Rattle.judge.specs.declared.Taken.{Taken}
+use Rattle.judge.specs.Session.{Took}
+use Rattle.desk.specs.Message.{fedOf, tableFed, FedAs}
+use borrow.Author.Needs.{needs}
+use Rattle.desk.proofs.feed.Statement.{statement}
+use Rattle.desk.proofs.feed.Tie as tie
+
+module _ (t : Taken) (p banks known table : List ℕ) where
+  takes : t .outcome ≡ Done → {r : Taken} {u : List ℕ} → Took (t .next) p banks known table r u → FedAs t p banks known table r u
+  unfolding fedOf tableFed
+  takes e k = record { result = rw e (k .result); bytes = rw e (k .bytes) }
+
+  stays : (r : Refusal) → t .outcome ≡ Refused r → FedAs t p banks known table t table
+  unfolding fedOf tableFed
+  stays r e = record { result = rw e; bytes = rw e }
+
+enum-told : tie.Need-enum-told
+enum-told c = search needs
+
+take-requires : tie.Need-take-requires
+take-requires c κs = search needs
+
+enum-told-2 : tie.Need-enum-told-2
+enum-told-2 c = search needs
+
+same-length : tie.Need-same-length
+same-length c = search needs
+
+returns : tie.Need-returns
+returns c =
+    let c1 = c .before .before in
+    let c2 = c1 .before .before in
+    let c3 = c2 .before .before .before .before .before .before .before in
+    takes (c3 .args .t) (c3 .args .piece .now) (c3 .args .banks .now) (c3 .args .known .now) (c3 .args .table .now) (c2 .enum-told .given .1) (c1 .take .ensures)
+
+returns-2 : tie.Need-returns-2
+returns-2 c =
+    let c1 = c .before .before .before .before .before .before .before in
+    stays (c1 .args .t) (c1 .args .piece .now) (c1 .args .banks .now) (c1 .args .known .now) (c1 .args .table .now) (c .enum-told2 .given .0 .0) (c .enum-told2 .given .1)
+
+pub feed-spec : {M : Type 1} → statement M
+feed-spec = tie.close (tie.spec enum-told take-requires enum-told-2 same-length returns returns-2)

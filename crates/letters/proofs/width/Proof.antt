@@ -1,0 +1,25 @@
+-- `letters::width` meets its contract.
+-- Assumes nothing.
+use Rattle.letters.proofs.Shown.{four-wide, one-wide, two-wide}
+use borrow.Author.Needs.{needs}
+use Rattle.letters.proofs.Shown.{four-wide, one-wide, two-wide}
+use Rattle.letters.proofs.width.Statement.{statement}
+use Rattle.letters.proofs.width.Tie as tie
+
+is-marked-requires : tie.Need-is-marked-requires
+is-marked-requires c κs = search needs
+
+returns : tie.Need-returns
+returns c = (four-wide (c .before .before .args .b) (c .before .is-marked .ensures) (c .if1 .taken), search needs)
+
+unicode-requires : tie.Need-unicode-requires
+unicode-requires c κs = search needs
+
+returns-2 : tie.Need-returns-2
+returns-2 c = (one-wide (c .before .before .before .before .args .b) (c .before .before .before .is-marked .ensures) (c .before .before .if1 .left) (c .before .unicode .ensures) (c .if2 .taken), search needs)
+
+returns-3 : tie.Need-returns-3
+returns-3 c = (two-wide (c .before .before .before .before .args .b) (c .before .before .before .is-marked .ensures) (c .before .before .if1 .left) (c .before .unicode .ensures) (c .if2 .left), search needs)
+
+pub width-spec : {M : Type 1} → statement M
+width-spec = tie.close (tie.spec is-marked-requires returns unicode-requires returns-2 returns-3)

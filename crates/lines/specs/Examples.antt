@@ -1,0 +1,68 @@
+-- Examples of numbers, of slips and of a STATUS in words, the four lines of document 01 among them, each group computed at once.
+-- Assumes nothing.
+use mathlib.Core.Path.{_≡_, refl}
+use mathlib.Core.List.{[], _∷_, _++_, map}
+use Rattle.base.specs.Bytes.{ascii}
+use Rattle.digits.specs.Digits.{figures}
+use Rattle.frame.specs.Records.{noId}
+use Rattle.judge.specs.Session.{none}
+use Rattle.rules.specs.declared.refusal.Refusal.the-variants.{NotADay, Overflow}
+use Rattle.lines.specs.Slip.{lineEnd, places, slipOf, refusalLine}
+use Rattle.lines.specs.Facts.{orderLine, addressLines, ownLines, countLines, statusText, itemLine}
+
+-- how many digits
+pub digits : map places (0 ∷ 9 ∷ 10 ∷ 99 ∷ 100 ∷ 18446744073709551615 ∷ []) ≡ 1 ∷ 1 ∷ 2 ∷ 2 ∷ 3 ∷ 20 ∷ []
+unfolding places
+digits = refl
+
+-- the closing of an empty message: 01's four lines
+pub broken :
+    slipOf (record { code = 26; accepted = none; refused = none; zeros = 0; id = noId })
+    ≡ ascii "MESSAGE 26" ++ lineEnd ++ ascii "ACCEPTED 0 0" ++ lineEnd ++ ascii "REFUSED 0 0" ++ lineEnd ++ ascii "ZERO 0" ++ lineEnd
+unfolding slipOf figures places
+broken = refl
+
+-- refusals
+pub refusals : map refusalLine (NotADay ∷ Overflow ∷ []) ≡ (ascii "REFUSAL 1" ++ lineEnd) ∷ (ascii "REFUSAL 6" ++ lineEnd) ∷ []
+unfolding figures places
+refusals = refl
+
+-- 01's reply of 104 bytes
+pub status :
+    statusText
+    (record {
+      duplicate = 0x30;
+      id = ascii "A12345676T001202003010001";
+      date = 20200310;
+      number = 7;
+      time = 83000;
+      code = 42;
+      accepted = none;
+      refused = none;
+      references = 0;
+    })
+    ≡ ascii "ORDER A12345676T001 20200301 0001"
+    ++ lineEnd
+    ++ ascii "DUPLICATE 0"
+    ++ lineEnd
+    ++ ascii "DATE 20200310"
+    ++ lineEnd
+    ++ ascii "NUMBER 7"
+    ++ lineEnd
+    ++ ascii "TIME 083000"
+    ++ lineEnd
+    ++ ascii "CODE 42"
+    ++ lineEnd
+    ++ ascii "ACCEPTED 0 0"
+    ++ lineEnd
+    ++ ascii "REFUSED 0 0"
+    ++ lineEnd
+    ++ ascii "REFERENCES 0"
+    ++ lineEnd
+unfolding statusText addressLines orderLine ownLines countLines figures places
+status = refl
+
+-- references
+pub references : map (itemLine 2) (0 ∷ 61 ∷ []) ≡ (ascii "ITEM 2 00" ++ lineEnd) ∷ (ascii "ITEM 2 61" ++ lineEnd) ∷ []
+unfolding itemLine figures places
+references = refl

@@ -1,0 +1,3 @@
+pub mod Slip
+pub mod Facts
+pub mod Examples

@@ -1,0 +1,106 @@
+// What the slip program prints: the four lines of a closing, or a refusal's number (01, Examples).
+ghost use mathlib.Core.Path.{_≡_};
+ghost use Prim.Native.Nat.{_+_, _^_, _≤_, _<_};
+ghost use lib.ListN.{length};
+ghost use Rattle.digits.specs.Digits.{figures};
+ghost use Rattle.base.specs.Put.{Written, Put};
+ghost use Rattle.lines.specs.Slip.{places, codeWidth, line, totalsLine, slipOf, refusalLine};
+use judge::Closing;
+use judge::Totals;
+use rules::refusal::Refusal;
+
+// How many digits a number has, 1 for 0.
+pub(crate) fn places(n: u64) -> usize
+    ensures { λ r. ⌜ (r ≡ places n) × (r ≤ 20) × (n < 10 ^ r) ⌝ }
+{
+    let mut left = n;
+    let mut w = 1;
+    while left >= 10 {
+        left = left / 10;
+        w += 1;
+    }
+    w
+}
+
+// How many digits a message code has.
+fn code_width(code: u8) -> usize
+    ensures { λ r. ⌜ (r ≡ codeWidth code) × (r ≤ 3) × (code < 10 ^ r) ⌝ }
+{
+    if code < 100 { 2 } else { 3 }
+}
+
+// Bytes at a place of the output; the place after them.
+pub(crate) fn put(out: &mut [u8], at: usize, s: &[u8]) -> usize
+    requires { ⌜ at + length (now s) ≤ length (now out) ⌝ }
+    ensures { λ r. ⌜ Put (now (out .entry)) at (now (s .entry)) r (now (out .exit)) ⌝ }
+{
+    text::put(&mut out[at..], s);
+    at + s.len()
+}
+
+// A number of so many digits at a place of the output.
+pub(crate) fn put_number(out: &mut [u8], at: usize, w: usize, n: u64) -> usize
+    requires { ⌜ (at + w ≤ length (now out)) × (n < 10 ^ w) ⌝ }
+    ensures { λ r. ⌜ Put (now (out .entry)) at (figures w n) r (now (out .exit)) ⌝ }
+{
+    digits::put_number(&mut out[at..], w, n);
+    at + w
+}
+
+// A word, a number of so many digits, 0Ah.
+pub(crate) fn put_line(out: &mut [u8], at: usize, word: &[u8], w: usize, n: u64) -> usize
+    requires { ⌜ (at + length (line (now word) w n) ≤ length (now out)) × (n < 10 ^ w) ⌝ }
+    ensures { λ r. ⌜ Put (now (out .entry)) at (line (now (word .entry)) w n) r (now (out .exit)) ⌝ }
+{
+    let i = put(out, at, word);
+    let i = put_number(out, i, w, n);
+    put(out, i, b"\n")
+}
+
+// A word, how many items, their sum, 0Ah.
+pub(crate) fn put_totals(out: &mut [u8], at: usize, word: &[u8], t: Totals) -> usize
+    requires { ⌜ at + length (totalsLine (now word) t) ≤ length (now out) ⌝ }
+    ensures { λ r. ⌜ Put (now (out .entry)) at (totalsLine (now (word .entry)) t) r (now (out .exit)) ⌝ }
+{
+    let i = put(out, at, word);
+    let i = put_number(out, i, places(t.count), t.count);
+    put_line(out, i, b" ", places(t.sum), t.sum)
+}
+
+// How long a closing's slip is.
+fn slip_length(k: Closing) -> usize
+    ensures { λ r. ⌜ r ≡ length (slipOf k) ⌝ }
+{
+    let a = k.accepted;
+    let b = k.refused;
+    let accepted = places(a.count) + places(a.sum);
+    let refused = places(b.count) + places(b.sum);
+    36 + code_width(k.code) + accepted + refused + places(k.zeros)
+}
+
+// The four lines of a closing, at the front of the output; their length, or 0 where it is too short, and then it stays as it was.
+pub fn put_closing(out: &mut [u8], k: Closing) -> usize
+    ensures { λ r. ⌜ Written (slipOf k) (now (out .entry)) r (now (out .exit)) ⌝ }
+{
+    if out.len() < slip_length(k) {
+        return 0;
+    }
+    let a = k.accepted;
+    let b = k.refused;
+    let i = put_line(out, 0, b"MESSAGE ", code_width(k.code), k.code as u64);
+    let i = put_totals(out, i, b"ACCEPTED ", a);
+    let i = put_totals(out, i, b"REFUSED ", b);
+    put_line(out, i, b"ZERO ", places(k.zeros), k.zeros)
+}
+
+// The line of a refusal, likewise.
+pub fn put_refusal(out: &mut [u8], r: Refusal) -> usize
+    ensures { λ n. ⌜ Written (refusalLine r) (now (out .entry)) n (now (out .exit)) ⌝ }
+{
+    let n = rules::refusal::number(r) as u64;
+    let w = places(n);
+    if out.len() < 9 + w {
+        return 0;
+    }
+    put_line(out, 0, b"REFUSAL ", w, n)
+}

@@ -1,0 +1,165 @@
+// Writes the STATUS reply to the message on standard input: reply DUPLICATE NUMBER TIME. The clearing day and the lists stand in the
+// files `day`, `banks` and `known` of the folder where it runs. Refusals and wrong arguments go to standard error (01, Calls and their
+// answers; Examples).
+ghost use Prim.Native.Nat.{_≤_};
+ghost use Rattle.io.specs.Counts.{Counts};
+use files::Given;
+use libc::STDERR_FILENO;
+use libc::STDIN_FILENO;
+use libc::STDOUT_FILENO;
+use rules::refusal::Refusal;
+use status::reply::Answer;
+use status::reply::Particulars;
+
+// One byte more than a file may have, so that a longer one shows.
+const SPACE: usize = files::MOST + 1;
+
+// A head, 10,001 items and a byte: what follows can't change the answer. With 10,001 complete items before a break it is refusal 6;
+// otherwise a break or the foot stands before this, and so does a byte after the foot.
+const MESSAGE: usize = 176 + 251 * 10001 + 1;
+
+// The longest reply: 10,000 references.
+const REPLY: usize = 104 + 65 * 10000;
+
+// A line on standard error.
+fn say(line: &[u8]) {
+    io::write_all(STDERR_FILENO, line);
+}
+
+// The line of a refusal, on standard error.
+fn refuse(r: Refusal) {
+    let mut line = [0u8; 32];
+    let n = lines::slip::put_refusal(&mut line, r);
+    say(&line[..n]);
+}
+
+// A file's bytes at the front of the space, and how many; none of a file that is missing or can't be read.
+fn read_file(path: &[u8], space: &mut [u8]) -> usize
+    ensures { λ r. ⌜ Counts r (now (space .exit)) ⌝ }
+{
+    let fd = os::open_read(path);
+    if fd < 0 {
+        return 0;
+    }
+    let n = io::read_full(fd, space);
+    libc::close(fd);
+    n
+}
+
+// The message is read, and the reply written.
+fn answer(
+    day: u32,
+    banks: &[u32],
+    known: &[u8],
+    p: Particulars,
+    message: &mut [u8],
+    out: &mut [u8],
+) {
+    let n = io::read_full(STDIN_FILENO, message);
+    let a = status::reply::write(day, banks, known, &message[..n], p, out);
+    match a {
+        Answer::Refused(r) => refuse(r),
+        Answer::Written(n) => {
+            io::write_all(STDOUT_FILENO, &out[..n]);
+        }
+    }
+}
+
+// In the memory that is lent.
+fn answer_in(
+    day: u32,
+    banks: &[u32],
+    known: &[u8],
+    p: Particulars,
+    message: &mut [u8; MESSAGE],
+    out: &mut [u8; REPLY],
+) {
+    answer(day, banks, known, p, message, out);
+}
+
+// The memory of an answer.
+fn judged(day: u32, banks: &[u32], known: &[u8], p: Particulars) {
+    let mut message = [0u8; MESSAGE];
+    let mut out = [0u8; REPLY];
+    answer_in(day, banks, known, p, &mut message, &mut out);
+}
+
+// The files are judged before the message is read.
+fn given(day: &[u8], banks: &[u8], known: &[u8], p: Particulars) {
+    let mut list = [0u32; files::BANKS];
+    match files::read(day, banks, known, &mut list) {
+        Given::Refused(r) => refuse(r),
+        Given::Files { day, banks } => judged(day, &list[..banks], known, p),
+    }
+}
+
+// What the three files hold is read.
+fn with_files(p: Particulars) {
+    let mut day = [0u8; SPACE];
+    let mut banks = [0u8; SPACE];
+    let mut known = [0u8; SPACE];
+    let d = read_file(b"day", &mut day);
+    let b = read_file(b"banks", &mut banks);
+    let k = read_file(b"known", &mut known);
+    given(&day[..d], &banks[..b], &known[..k], p);
+}
+
+// What an argument of digits says.
+enum Argument {
+    Number(u32),
+    Wrong,
+}
+
+// The number of so many digits at least and at most.
+fn number_of(s: &[u8], least: usize, most: usize) -> Argument
+    requires { ⌜ most ≤ 9 ⌝ }
+{
+    if s.len() < least {
+        return Argument::Wrong;
+    }
+    if s.len() > most {
+        return Argument::Wrong;
+    }
+    if !digits::is_digits(s) {
+        return Argument::Wrong;
+    }
+    Argument::Number(digits::number(s) as u32)
+}
+
+// The arguments, as text: one character; one to four digits; six digits. What they say is judged with the message (refusal 8).
+fn asked(duplicate: &[u8], number: &[u8], time: &[u8]) {
+    if duplicate.len() != 1 {
+        say(b"reply: DUPLICATE is one character, 0 or @. Usage: reply DUPLICATE NUMBER TIME\n");
+        return;
+    }
+    let Argument::Number(n) = number_of(number, 1, 4) else {
+        say(b"reply: NUMBER is one to four digits. Usage: reply DUPLICATE NUMBER TIME\n");
+        return;
+    };
+    let Argument::Number(t) = number_of(time, 6, 6) else {
+        say(b"reply: TIME is six digits, hhmmss. Usage: reply DUPLICATE NUMBER TIME\n");
+        return;
+    };
+    with_files(Particulars {
+        duplicate: duplicate[0],
+        number: n,
+        time: t,
+    });
+}
+
+fn main() {
+    if os::arg_count() != 4 {
+        say(
+            b"Usage: reply DUPLICATE NUMBER TIME (0 or @; one to four digits; hhmmss), the message on standard input\n",
+        );
+        return;
+    }
+    // An argument that is longer than its space counts as empty.
+    let mut duplicate = [0u8; 8];
+    let mut number = [0u8; 8];
+    let mut time = [0u8; 8];
+    let d = os::arg(1, &mut duplicate);
+    let n = os::arg(2, &mut number);
+    let t = os::arg(3, &mut time);
+    asked(&duplicate[..d], &number[..n], &time[..t]);
+}
