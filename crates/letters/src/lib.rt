@@ -1,6 +1,5 @@
 // Fields of a message shown in UTF-8: the letters of code page 852 that are text (01, fault 2), and a mark for any other byte.
 ghost use mathlib.Core.Path.{_≡_};
-ghost use mathlib.Core.Bool.{not};
 ghost use mathlib.Core.List.{[], _∷_};
 ghost use Prim.Native.Nat.{_+_, _≤_, _<_};
 ghost use lib.ListN.{length};

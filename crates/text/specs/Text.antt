@@ -13,7 +13,7 @@ oneOf [] b = false
 oneOf (x ∷ xs) b = eqb b x || oneOf xs b
 
 -- the eighteen Hungarian letters of code page 852 (01, fault 2):
--- ü é Ő ő É ö Ö Ü á í ó ú Á Í Ó Ú ű Ű
+-- ü é Ő ő É ö Ö Ü á í ó ú Á Í Ó Ú Ű ű
 abbrev pub hungarian : List ℕ
 hungarian =
     0x81 ∷ 0x82 ∷ 0x8a ∷ 0x8b ∷ 0x90 ∷ 0x94 ∷ 0x99 ∷ 0x9a ∷ 0xa0
