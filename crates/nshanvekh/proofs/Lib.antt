@@ -1,0 +1,4 @@
+pub mod Stores
+pub mod Tells
+pub mod Sessions
+pub mod Messages

@@ -1,0 +1,29 @@
+-- `nshanvekh::nsh_reply` meets its contract: a wrong size, else what writing tells.
+-- Assumes nothing.
+use Rattle.nshanvekh.proofs.Messages.{reply-wrong, reply-told}
+use borrow.Author.Needs.{needs}
+use Rattle.nshanvekh.proofs.nsh_reply.Statement.{statement}
+use Rattle.nshanvekh.proofs.nsh_reply.Tie as tie
+
+returns : tie.Need-returns
+returns c = reply-wrong (c .before .before .before .before .before .before .args .message .now) (c .before .before .before .before .before .before .args .day) (c .before .before .before .before .before .before .args .banks .now) (c .before .before .before .before .before .before .args .known .now) (c .before .before .before .before .before .before .args .duplicate) (c .before .before .before .before .before .before .args .number) (c .before .before .before .before .before .before .args .time) (c .before .before .before .before .before .before .args .out .now) (c .before .before .before .before .before .before .args .numbers .now) (c .if1 .taken)
+
+write-requires : tie.Need-write-requires
+write-requires c κs = search needs
+
+tell-reply-requires : tie.Need-tell-reply-requires
+tell-reply-requires c κs = c .before .before .before .before .before .if1 .left
+
+same-length : tie.Need-same-length
+same-length c = search needs
+
+same-length-2 : tie.Need-same-length-2
+same-length-2 c = search needs
+
+returns-2 : tie.Need-returns-2
+returns-2 c = reply-told (c .before .before .before .before .before .before .before .before .before .before .before .before .before .before .args .message .now) (c .before .before .before .before .before .before .before .before .before .before .before .before .before .before .args .day) (c .before .before .before .before .before .before .before .before .before .before .before .before .before .before .args .banks .now) (c .before .before .before .before .before .before .before .before .before .before .before .before .before .before .args .known .now) (c .before .before .before .before .before .before .before .before .before .before .before .before .before .before .args .duplicate) (c .before .before .before .before .before .before .before .before .before .before .before .before .before .before .args .number) (c .before .before .before .before .before .before .before .before .before .before .before .before .before .before .args .time) (c .before .before .before .before .before .before .before .before .before .before .before .before .before .before .args .out .now) (c .before .before .before .before .before .before .before .before .before .before .before .before .before .before .args .numbers .now) (c .before .before .before .before .before .before .before .before .if1 .left) (c .before .before .before .before .before .before .write .ensures) (c .before .before .tell-reply .ensures)
+
+pub nsh-reply-spec : {M : Type 1} → statement M
+nsh-reply-spec =
+    tie.close
+    (tie.spec returns write-requires tell-reply-requires same-length same-length-2 returns-2)

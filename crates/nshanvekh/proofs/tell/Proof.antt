@@ -1,0 +1,65 @@
+-- `nshanvekh::tell` meets its contract: nothing beside a refusal, else each number at its place and the identifier.
+-- Assumes nothing.
+use Rattle.nshanvekh.proofs.Tells.{told-none, told}
+use lib.ListN.{length-set}
+use native.Mathlib.Omega.{arith}
+use borrow.Author.Needs.{needs}
+use Rattle.nshanvekh.proofs.tell.Statement.{statement}
+use Rattle.nshanvekh.proofs.tell.Tie as tie
+
+returns : tie.Need-returns
+returns c = told-none (c .before .before .before .args .n) (c .before .before .before .args .numbers .now) (c .before .before .before .args .id .now) (c .before .before .before .args .k) (c .if1 .taken)
+
+cast-numbers : tie.Need-cast-numbers
+cast-numbers c = search needs
+
+slice-write-numbers : tie.Need-slice-write-numbers
+slice-write-numbers c = search needs
+
+slice-write-numbers-2 : tie.Need-slice-write-numbers-2
+slice-write-numbers-2 c = search needs
+
+slice-write-numbers-3 : tie.Need-slice-write-numbers-3
+slice-write-numbers-3 c = search needs
+
+slice-write-numbers-4 : tie.Need-slice-write-numbers-4
+slice-write-numbers-4 c = search needs
+
+slice-write-numbers-5 : tie.Need-slice-write-numbers-5
+slice-write-numbers-5 c = simp length-set (omega (arith, c .before .before .before .before .before .before .before .pre .0))
+
+slice-write-numbers-6 : tie.Need-slice-write-numbers-6
+slice-write-numbers-6 c = simp length-set (omega (arith, c .before .before .before .before .before .before .before .pre .0))
+
+slice-aggregate-put : tie.Need-slice-aggregate-put
+slice-aggregate-put c = search needs
+
+put-requires : tie.Need-put-requires
+put-requires c κs = search needs
+
+same-length : tie.Need-same-length
+same-length c = search needs
+
+same-length-2 : tie.Need-same-length-2
+same-length-2 c = search needs
+
+returns-2 : tie.Need-returns-2
+returns-2 c = told (c .before .before .before .before .before .before .before .before .before .before .before .before .args .n) (c .before .before .before .before .before .before .before .before .before .before .before .before .args .numbers .now) (c .before .before .before .before .before .before .before .before .before .before .before .before .args .id .now) (c .before .before .before .before .before .before .before .before .before .before .before .before .args .k) (c .before .before .before .before .before .before .before .before .before .if1 .left) (c .before .before .before .before .before .before .before .before .before .before .before .before .pre .0) (c .before .before .before .before .before .before .before .before .before .before .before .before .pre .1) (search needs) _ (c .before .before .put .ensures .1)
+
+pub tell-spec : {M : Type 1} → statement M
+tell-spec =
+    tie.close
+    (tie.spec
+    returns
+    cast-numbers
+    slice-write-numbers
+    slice-write-numbers-2
+    slice-write-numbers-3
+    slice-write-numbers-4
+    slice-write-numbers-5
+    slice-write-numbers-6
+    slice-aggregate-put
+    put-requires
+    same-length
+    same-length-2
+    returns-2)

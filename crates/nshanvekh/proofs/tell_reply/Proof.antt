@@ -1,0 +1,43 @@
+-- `nshanvekh::tell_reply` meets its contract: the refusal's number, or the length.
+-- Assumes nothing.
+use Rattle.nshanvekh.proofs.Tells.{reply-written}
+use borrow.Author.Needs.{needs}
+use Rattle.nshanvekh.proofs.tell_reply.Statement.{statement}
+use Rattle.nshanvekh.proofs.tell_reply.Tie as tie
+
+enum-known-a : tie.Need-enum-known-a
+enum-known-a c = search needs
+
+number-requires : tie.Need-number-requires
+number-requires c κs = search needs
+
+cast-result : tie.Need-cast-result
+cast-result c = search needs
+
+enum-known-a-2 : tie.Need-enum-known-a-2
+enum-known-a-2 c = search needs
+
+slice-write-numbers : tie.Need-slice-write-numbers
+slice-write-numbers c = search needs
+
+returns : tie.Need-returns
+returns c = search needs
+
+same-length : tie.Need-same-length
+same-length c = search needs
+
+returns-2 : tie.Need-returns-2
+returns-2 c = reply-written (c .before .before .before .before .args .a) (c .before .before .before .before .args .numbers .now) (c .before .a2 .given .0 .0) (c .before .a2 .given .1) (c .before .before .before .before .pre)
+
+pub tell-reply-spec : {M : Type 1} → statement M
+tell-reply-spec =
+    tie.close
+    (tie.spec
+    enum-known-a
+    number-requires
+    cast-result
+    enum-known-a-2
+    slice-write-numbers
+    returns
+    same-length
+    returns-2)

@@ -1,0 +1,57 @@
+-- What the calls over a session answer, and what they leave in the memory that was lent (01, Calls and their answers).
+-- Assumes nothing.
+use Prim.Native.Nat.{ℕ}
+use mathlib.Core.Path.{_≡_}
+use mathlib.Core.Bool.{Bool, true, cond, _&&_}
+use mathlib.Core.List.{List, [], _∷_}
+use lib.ListN.{length}
+use lib.Dec.{eqb}
+use Rattle.judge.specs.declared.Closing.{Closing}
+use Rattle.judge.specs.Session.{outcomeNumber, opened, taken, tableTaken, closedOf}
+use Rattle.packed.specs.Packed.{bytesOf, unpacked}
+
+-- a buffer has the size that the call asks for
+abbrev pub sized : List ℕ → ℕ → Bool
+sized x n = eqb (length x) n
+
+-- the refusal of a buffer of another size, before anything else
+abbrev pub wrongSize : ℕ
+wrongSize = 11
+
+-- what is written by a call whose number is 0, and stays as it was after any other
+abbrev pub ifDone : ℕ → List ℕ → List ℕ → List ℕ
+ifDone n new old = cond (eqb n 0) new old
+
+-- opening; after 1 and 4 the buffer holds the closed session. What it holds is what the next call takes out
+pub record OpenedAs (e : ℕ) (t x : List ℕ) (r : ℕ) (x′ : List ℕ) : Type 0 where
+  pub answer : r ≡ cond (sized x 344) (outcomeNumber (opened e t .outcome)) wrongSize
+  pub session : x′ ≡ cond (sized x 344) (bytesOf (opened e t .next)) x
+  pub holds : sized x 344 ≡ true → unpacked x′ ≡ opened e t .next
+
+-- taking a piece
+pub record PieceAs (x p banks known t : List ℕ) (r : ℕ) (x′ t′ : List ℕ) : Type 0 where
+  pub answer : r ≡ cond (sized x 344) (outcomeNumber (taken (unpacked x) p banks known t .outcome)) wrongSize
+  pub session : x′ ≡ ifDone r (bytesOf (taken (unpacked x) p banks known t .next)) x
+  pub table : t′ ≡ cond (sized x 344) (tableTaken (unpacked x) p banks known t) t
+  pub holds : r ≡ 0 → unpacked x′ ≡ taken (unpacked x) p banks known t .next
+
+-- the numbers of a closing: code, accepted count and sum, refused count and sum, zero watch
+unfoldable pub closingNumbers : Closing → List ℕ
+closingNumbers k = k .code ∷ k .accepted .count ∷ k .accepted .sum ∷ k .refused .count ∷ k .refused .sum ∷ k .zeros ∷ []
+
+-- what a closing tells beside the call's number
+pub record Told (n : ℕ) (k : Closing) (ns id : List ℕ) (r : ℕ) (ns′ id′ : List ℕ) : Type 0 where
+  pub answer : r ≡ n
+  pub numbers : ns′ ≡ ifDone n (closingNumbers k) ns
+  pub identifier : id′ ≡ ifDone n (k .id) id
+
+-- a session, six numbers, an identifier
+abbrev pub sizedAll : List ℕ → List ℕ → List ℕ → Bool
+sizedAll x ns id = sized x 344 && (sized ns 6 && sized id 25)
+
+-- closing: 0 and 6 leave a closed session, 5 and 11 the bytes that came
+pub record ClosedAs (x ns id : List ℕ) (r : ℕ) (x′ ns′ id′ : List ℕ) : Type 0 where
+  pub answer : r ≡ cond (sizedAll x ns id) (outcomeNumber (closedOf (unpacked x) .outcome)) wrongSize
+  pub session : x′ ≡ cond (sizedAll x ns id) (cond (eqb r 5) x (bytesOf (closedOf (unpacked x) .next))) x
+  pub numbers : ns′ ≡ ifDone r (closingNumbers (closedOf (unpacked x) .closing)) ns
+  pub identifier : id′ ≡ ifDone r (closedOf (unpacked x) .closing .id) id

@@ -1,0 +1,227 @@
+// What a host links: the judge as functions over numbers and lent memory (include/nshanvekh.h says how C sees each call).
+// A session is 344 bytes that the host keeps. Buffers of a wrong size are refused with 11 before anything else.
+ghost use mathlib.Core.Path.{_≡_};
+ghost use lib.ListN.{length};
+ghost use Rattle.rules.specs.Single.{singleAnswer};
+ghost use Rattle.judge.specs.Session.{outcomeNumber};
+ghost use Rattle.nshanvekh.specs.Session.{OpenedAs, PieceAs, ClosedAs, Told};
+ghost use Rattle.nshanvekh.specs.Message.{JudgedNumbers, RepliedAs, StatusAs, StatusTold, ReplyTold};
+ghost use Rattle.nshanvekh.specs.Single.{singleNumber};
+use judge::Closing;
+use judge::Outcome;
+use judge::Session;
+use status::Status;
+use status::reply::Answer;
+use status::reply::Particulars;
+
+mod single;
+
+// The number of an outcome: 0, or the refusal's.
+fn number_of(o: Outcome) -> u32
+    ensures { λ r. ⌜ r ≡ outcomeNumber o ⌝ }
+{
+    match o {
+        Outcome::Done => 0,
+        Outcome::Refused(r) => rules::refusal::number(r) as u32,
+    }
+}
+
+// What closing gives is written where the call's number is 0.
+fn tell(n: u32, k: Closing, numbers: &mut [u64], id: &mut [u8]) -> u32
+    requires { ⌜ (length (now numbers) ≡ 6) × (length (now id) ≡ 25) ⌝ }
+    ensures { λ r. ⌜ Told n k (now (numbers .entry)) (now (id .entry)) r (now (numbers .exit)) (now (id .exit)) ⌝ }
+{
+    if n != 0 {
+        return n;
+    }
+    let a = k.accepted;
+    let r = k.refused;
+    let own = k.id;
+    numbers[0] = k.code as u64;
+    numbers[1] = a.count;
+    numbers[2] = a.sum;
+    numbers[3] = r.count;
+    numbers[4] = r.sum;
+    numbers[5] = k.zeros;
+    text::put(id, &own);
+    n
+}
+
+// A session is opened for a clearing day and a code table: refusals 11, 1, 4. After 1 and 4 the buffer holds a closed session.
+#[no_mangle]
+pub extern "C" fn nsh_open(day: u32, table: &[u8], session: &mut [u8]) -> u32
+    ensures { λ r. ⌜ OpenedAs day (now (table .entry)) (now (session .entry)) r (now (session .exit)) ⌝ }
+{
+    if session.len() != packed::BYTES {
+        return 11;
+    }
+    let t = Session::open(day, table);
+    let o = t.outcome;
+    let s = t.next;
+    packed::pack(s, session);
+    number_of(o)
+}
+
+// A piece is taken: refusals 11, 5, 2, 3, 4. A refusal leaves session and table as they were.
+#[no_mangle]
+pub extern "C" fn nsh_piece(
+    session: &mut [u8],
+    bytes: &[u8],
+    banks: &[u32],
+    known: &[u8],
+    table: &mut [u8],
+) -> u32
+    ensures { λ r. ⌜ PieceAs (now (session .entry)) (now (bytes .entry)) (now (banks .entry)) (now (known .entry)) (now (table .entry)) r (now (session .exit)) (now (table .exit)) ⌝ }
+{
+    if session.len() != packed::BYTES {
+        return 11;
+    }
+    let s = packed::unpack(session);
+    let t = s.take(bytes, banks, known, table);
+    let o = t.outcome;
+    let after = t.next;
+    let n = number_of(o);
+    if n != 0 {
+        return n;
+    }
+    packed::pack(after, session);
+    n
+}
+
+// The message is over: refusals 11, 5, 6. 5 leaves all that is lent as it was, 6 closes the session and writes nothing else.
+#[no_mangle]
+pub extern "C" fn nsh_close(session: &mut [u8], numbers: &mut [u64], id: &mut [u8]) -> u32
+    ensures { λ r. ⌜ ClosedAs (now (session .entry)) (now (numbers .entry)) (now (id .entry)) r (now (session .exit)) (now (numbers .exit)) (now (id .exit)) ⌝ }
+{
+    if !((session.len() == packed::BYTES) & ((numbers.len() == 6) & (id.len() == 25))) {
+        return 11;
+    }
+    let s = packed::unpack(session);
+    let c = s.close();
+    let o = c.outcome;
+    let k = c.closing;
+    let next = c.next;
+    let n = number_of(o);
+    if n == 5 {
+        return n;
+    }
+    packed::pack(next, session);
+    tell(n, k, numbers, id)
+}
+
+// A whole message is judged: refusals 11, 1, 4, 2, 3, 6. Where it is refused, numbers and identifier stay as they were.
+#[no_mangle]
+pub extern "C" fn nsh_judge(
+    message: &[u8],
+    day: u32,
+    banks: &[u32],
+    known: &[u8],
+    table: &mut [u8],
+    numbers: &mut [u64],
+    id: &mut [u8],
+) -> u32
+    ensures { λ r. ⌜ JudgedNumbers (now (message .entry)) day (now (banks .entry)) (now (known .entry)) (now (table .entry)) (now (numbers .entry)) (now (id .entry)) r (now (table .exit)) (now (numbers .exit)) (now (id .exit)) ⌝ }
+{
+    if !((numbers.len() == 6) & (id.len() == 25)) {
+        return 11;
+    }
+    let j = judge::judge(day, banks, known, table, message);
+    let o = j.outcome;
+    let k = j.closing;
+    tell(number_of(o), k, numbers, id)
+}
+
+// A single head or item, without its ending, at place k: 0, a refusal (1, 2, 3, 10), or the field and the kind of its fault.
+#[no_mangle]
+pub extern "C" fn nsh_single(x: &[u8], day: u32, banks: &[u32], known: &[u8], place: u32) -> u32
+    ensures { λ r. ⌜ r ≡ singleNumber (singleAnswer day (now (banks .entry)) (now (known .entry)) place (now (x .entry))) ⌝ }
+{
+    single::number(rules::single::judge(x, place as u64, day, banks, known))
+}
+
+// The reply's length is written, or the refusal told.
+fn tell_reply(a: Answer, numbers: &mut [u64]) -> u32
+    requires { ⌜ length (now numbers) ≡ 1 ⌝ }
+    ensures { λ r. ⌜ ReplyTold a (now (numbers .entry)) r (now (numbers .exit)) ⌝ }
+{
+    match a {
+        Answer::Refused(r) => rules::refusal::number(r) as u32,
+        Answer::Written(n) => {
+            numbers[0] = n as u64;
+            0
+        }
+    }
+}
+
+// The reply to a whole message goes to the front of the output: refusals 11, 1, 2, 3, 6, 7, 8, 9.
+#[no_mangle]
+pub extern "C" fn nsh_reply(
+    message: &[u8],
+    day: u32,
+    banks: &[u32],
+    known: &[u8],
+    duplicate: u8,
+    number: u32,
+    time: u32,
+    out: &mut [u8],
+    numbers: &mut [u64],
+) -> u32
+    ensures { λ r. ⌜ RepliedAs (now (message .entry)) day (now (banks .entry)) (now (known .entry)) duplicate number time (now (out .entry)) (now (numbers .entry)) r (now (out .exit)) (now (numbers .exit)) ⌝ }
+{
+    if numbers.len() != 1 {
+        return 11;
+    }
+    let p = Particulars {
+        duplicate: duplicate,
+        number: number,
+        time: time,
+    };
+    tell_reply(
+        status::reply::write(day, banks, known, message, p, out),
+        numbers,
+    )
+}
+
+// What a STATUS says is written where the call's number is 0.
+fn tell_status(n: u32, s: Status, numbers: &mut [u64], id: &mut [u8]) -> u32
+    requires { ⌜ (length (now numbers) ≡ 10) × (length (now id) ≡ 25) ⌝ }
+    ensures { λ r. ⌜ StatusTold n s (now (numbers .entry)) (now (id .entry)) r (now (numbers .exit)) (now (id .exit)) ⌝ }
+{
+    if n != 0 {
+        return n;
+    }
+    let a = s.accepted;
+    let r = s.refused;
+    let own = s.id;
+    numbers[0] = s.duplicate as u64;
+    numbers[1] = s.date as u64;
+    numbers[2] = s.number as u64;
+    numbers[3] = s.time as u64;
+    numbers[4] = s.code as u64;
+    numbers[5] = a.count;
+    numbers[6] = a.sum;
+    numbers[7] = r.count;
+    numbers[8] = r.sum;
+    numbers[9] = s.references as u64;
+    text::put(id, &own);
+    n
+}
+
+// A STATUS is read: refusals 11, 10, 9. The k-th reference's code goes to byte k of the table; a refusal alters nothing.
+#[no_mangle]
+pub extern "C" fn nsh_read_status(
+    bytes: &[u8],
+    table: &mut [u8],
+    numbers: &mut [u64],
+    id: &mut [u8],
+) -> u32
+    ensures { λ r. ⌜ StatusAs (now (bytes .entry)) (now (table .entry)) (now (numbers .entry)) (now (id .entry)) r (now (table .exit)) (now (numbers .exit)) (now (id .exit)) ⌝ }
+{
+    if !((numbers.len() == 10) & (id.len() == 25)) {
+        return 11;
+    }
+    let x = reading::read_status(bytes, table);
+    let o = x.outcome;
+    let s = x.status;
+    tell_status(number_of(o), s, numbers, id)
+}

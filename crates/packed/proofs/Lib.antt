@@ -1,0 +1,5 @@
+pub mod Little
+pub mod Copy
+pub mod Parts
+pub mod Fields
+pub mod RoundTrip

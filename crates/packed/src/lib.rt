@@ -1,0 +1,189 @@
+// A session as bytes, for a host that keeps it in memory of its own (docs/SESSION.md, The session as bytes).
+ghost use mathlib.Core.Path.{_≡_};
+ghost use mathlib.Core.Bool.{true};
+ghost use Prim.Native.Nat.{_+_, _*_, _≤_};
+ghost use lib.ListN.{length, take, drop};
+ghost use Rattle.base.specs.Bytes.{over};
+ghost use Rattle.packed.specs.Packed.{
+  little,
+  valueAt,
+  totalsAt,
+  eights,
+  isPacked,
+  sessionIn,
+  unpacked,
+  PackedAs,
+};
+use judge::Session;
+use judge::Tally;
+use judge::Totals;
+
+// The bytes of a packed session.
+pub const BYTES: usize = 344;
+
+// A number in eight bytes at a place, the least first.
+fn put_number(out: &mut [u8], at: usize, n: u64)
+    requires { ⌜ at + 8 ≤ length (now out) ⌝ }
+    ensures { λ _. ⌜ now (out .exit) ≡ over (now (out .entry)) at (little 8 n) ⌝ }
+{
+    let mut left = n;
+    let mut i = 0;
+    while i < 8 {
+        let to = at + i;
+        out[to] = (left % 256) as u8;
+        left = left / 256;
+        i += 1;
+    }
+}
+
+// Numbers, one after the other from a place on.
+fn put_numbers(out: &mut [u8], at: usize, numbers: &[u64])
+    requires { ⌜ at + length (now numbers) * 8 ≤ length (now out) ⌝ }
+    ensures { λ _. ⌜ now (out .exit) ≡ over (now (out .entry)) at (eights (now (numbers .entry))) ⌝ }
+{
+    let mut i = 0;
+    while i < numbers.len() {
+        put_number(out, at + i * 8, numbers[i]);
+        i += 1;
+    }
+}
+
+// Bytes, at a place.
+fn put_bytes(out: &mut [u8], at: usize, s: &[u8])
+    requires { ⌜ at + length (now s) ≤ length (now out) ⌝ }
+    ensures { λ _. ⌜ now (out .exit) ≡ over (now (out .entry)) at (now (s .entry)) ⌝ }
+{
+    text::put(&mut out[at..], s);
+}
+
+// The bytes of a session, in place of all that is lent. Where that isn't 344 bytes, the answer is false and nothing is written.
+pub fn pack(s: Session, out: &mut [u8]) -> bool
+    ensures { λ r. ⌜ PackedAs s (now (out .entry)) r (now (out .exit)) ⌝ }
+{
+    if out.len() != BYTES {
+        return false;
+    }
+    let t = s.tally;
+    let a = t.accepted;
+    let r = t.refused;
+    let id = t.id;
+    let held = s.held;
+    put_bytes(out, 0, &[1, t.phase, t.letter as u8, t.code]);
+    let numbers = [
+        s.day as u64,
+        s.room as u64,
+        a.count,
+        a.sum,
+        r.count,
+        r.sum,
+        t.zeros,
+        s.fill as u64,
+    ];
+    put_numbers(out, 4, &numbers);
+    put_bytes(out, 68, &id);
+    put_bytes(out, 93, &held);
+    true
+}
+
+// The number in eight bytes at a place.
+fn number_at(x: &[u8], at: usize) -> u64
+    requires { ⌜ at + 8 ≤ length (now x) ⌝ }
+    ensures { λ r. ⌜ r ≡ valueAt at (now (x .entry)) ⌝ }
+{
+    let mut n: u64 = 0;
+    let mut i = at + 8;
+    while i > at {
+        i -= 1;
+        n = n * 256 + x[i] as u64;
+    }
+    n
+}
+
+// The bytes are those of a session: their number, the mark, a letter that is 0 or 1, a day of 32 bits.
+fn is_packed(x: &[u8]) -> bool
+    ensures { λ r. ⌜ r ≡ isPacked (now (x .entry)) ⌝ }
+{
+    if x.len() != BYTES {
+        return false;
+    }
+    (x[0] == 1) & ((x[2] <= 1) & (number_at(x, 4) <= 4294967295))
+}
+
+// The 25 bytes of the identifier.
+fn id_in(x: &[u8]) -> [u8; 25]
+    requires { ⌜ length (now x) ≡ 344 ⌝ }
+    ensures { λ r. ⌜ r ≡ take 25 (drop 68 (now (x .entry))) ⌝ }
+{
+    let mut id = [0u8; 25];
+    let mut i = 0;
+    while i < 25 {
+        id[i] = x[68 + i];
+        i += 1;
+    }
+    id
+}
+
+// The 251 bytes held.
+fn held_in(x: &[u8]) -> [u8; 251]
+    requires { ⌜ length (now x) ≡ 344 ⌝ }
+    ensures { λ r. ⌜ r ≡ take 251 (drop 93 (now (x .entry))) ⌝ }
+{
+    let mut held = [0u8; 251];
+    let mut i = 0;
+    while i < 251 {
+        held[i] = x[93 + i];
+        i += 1;
+    }
+    held
+}
+
+// A count and a sum from a place on.
+fn totals_at(x: &[u8], at: usize) -> Totals
+    requires { ⌜ at + 16 ≤ length (now x) ⌝ }
+    ensures { λ r. ⌜ r ≡ totalsAt at (now (x .entry)) ⌝ }
+{
+    Totals {
+        count: number_at(x, at),
+        sum: number_at(x, at + 8),
+    }
+}
+
+// The session that bytes stand for.
+fn session_in(x: &[u8]) -> Session
+    requires { ⌜ isPacked (now x) ≡ true ⌝ }
+    ensures { λ r. ⌜ r ≡ sessionIn (now (x .entry)) ⌝ }
+{
+    let accepted = totals_at(x, 20);
+    let refused = totals_at(x, 36);
+    let id = id_in(x);
+    let held = held_in(x);
+    let tally = Tally {
+        phase: x[1],
+        letter: x[2] == 1,
+        code: x[3],
+        accepted: accepted,
+        refused: refused,
+        zeros: number_at(x, 52),
+        id: id,
+    };
+    Session {
+        day: number_at(x, 4) as u32,
+        room: number_at(x, 12) as usize,
+        tally: tally,
+        fill: number_at(x, 60) as usize,
+        held: held,
+    }
+}
+
+// The session that was packed; bytes that are those of none give the closed one, which each call refuses with 5.
+pub fn unpack(x: &[u8]) -> Session
+    ensures { λ r. ⌜ r ≡ unpacked (now (x .entry)) ⌝ }
+{
+    if is_packed(x) {
+        return session_in(x);
+    }
+    // No day is 0, so that this opening gives the closed session.
+    let none = Session::open(0, x);
+    let s = none.next;
+    s
+}

@@ -1,0 +1,129 @@
+/* Nshanvekh: the judge of ATUTAL messages, for hosts in C.
+
+   Link libnshanvekh.a (`rt staticlib nshanvekh`). The library has no memory of its own, no heap and no input or output: all that it
+   reads and writes is lent for the length of a call. Of C's library it uses memcpy and memset.
+
+   A slice is two arguments, a pointer and a count of elements. The pointer is not null, also where the count is 0, and is aligned
+   for its type. Memory that a call may write (a pointer without const) overlaps no other memory of the same call.
+
+   Each call returns 0, or the number of its refusal, unless said otherwise. Refusals come in the order in which a call lists them.
+   A refused call alters nothing that was lent, but for what is said at nsh_open, nsh_close and nsh_judge. The proofs determine every
+   lent element for all arguments, refused ones too. */
+#ifndef NSHANVEKH_H
+#define NSHANVEKH_H
+
+#include <stddef.h>
+#include <stdint.h>
+
+#ifdef __cplusplus
+extern "C" {
+#endif
+
+/* Sizes of buffers, in elements. Buffers of another size are refused with NSH_SIZE before anything else. */
+#define NSH_SESSION_BYTES 344  /* session: uint8_t */
+#define NSH_CLOSING_NUMBERS 6  /* numbers of nsh_close and nsh_judge: uint64_t */
+#define NSH_REPLY_NUMBERS 1    /* numbers of nsh_reply: uint64_t */
+#define NSH_STATUS_NUMBERS 10  /* numbers of nsh_read_status: uint64_t */
+#define NSH_ID_BYTES 25        /* id: uint8_t */
+
+/* The most bytes of a code table, one for each item. */
+#define NSH_TABLE_MOST 10000
+
+/* Refusals. */
+#define NSH_DONE 0
+#define NSH_DAY 1          /* the clearing day isn't a date */
+#define NSH_BANKS 2        /* the bank list isn't strictly ascending, or holds a number over 99,999,999 */
+#define NSH_KNOWN 3        /* the known list's length isn't a multiple of 25 */
+#define NSH_TABLE 4        /* at opening the table exceeds 10,000 bytes; later its length isn't that of the opening */
+#define NSH_SESSION 5      /* the session was closed, never opened, or its bytes are those of none */
+#define NSH_OVERFLOW 6     /* more items than the table has bytes, or in a reply than 10,000, before any break */
+#define NSH_ADDRESS 7      /* the message has under 34 bytes, or its positions 10-34 hold a byte outside 20h-7Eh */
+#define NSH_PARTICULARS 8  /* duplicate code not '0' or '@', number over 9999, or time not 000000 to 235959 */
+#define NSH_ROOM 9         /* the output is shorter than the reply, or the table than the references */
+#define NSH_MALFORMED 10   /* the bytes aren't a STATUS message; a single record isn't 174 or 249 bytes */
+#define NSH_SIZE 11        /* a session, numbers or id buffer has another size than above */
+
+/* What the calls are given:
+   day     the clearing day as a number, yyyymmdd
+   banks   the bank list, numbers of at most eight digits, strictly ascending
+   known   the identifiers already seen, 25 bytes each, end to end
+   table   the code table: the k-th item's code goes to byte k as a number, 0 where the item is accepted; other bytes stay */
+
+/* A session is opened: refusals 11, 1, 4. Only the table's length counts here. The session is written over the whole buffer; after
+   refusals 1 and 4 the buffer holds a closed session, which each call refuses with 5. After 11 it is as it was. */
+uint32_t nsh_open(uint32_t day, const uint8_t *table, size_t table_len, uint8_t *session, size_t session_len);
+
+/* The next piece of the message, of any length: refusals 11, 5, 2, 3, 4. The buffer then holds the session to use next, and the table
+   the codes of the items that were completed. The table is as long as at opening; the same lists come with each piece. */
+uint32_t nsh_piece(uint8_t *session, size_t session_len, const uint8_t *bytes, size_t bytes_len, const uint32_t *banks, size_t banks_len,
+                   const uint8_t *known, size_t known_len, uint8_t *table, size_t table_len);
+
+/* The message is over: refusals 11, 5, 6. numbers: message code, accepted count, accepted sum, refused count, refused sum, zero watch
+   (accepted items whose account is all zeros); with a code other than 0 the other five are 0. id: the message's positions 10-34, spaces
+   unless a head with its right ending was read. The buffer then holds a closed session. 6 closes the session too, and leaves numbers
+   and id as they were. */
+uint32_t nsh_close(uint8_t *session, size_t session_len, uint64_t *numbers, size_t numbers_len, uint8_t *id, size_t id_len);
+
+/* A whole message at once: refusals 11, 1, 4, 2, 3, 6. numbers and id as in nsh_close. With 6 the codes of the items that had a byte
+   are in the table; numbers and id are as they were. */
+uint32_t nsh_judge(const uint8_t *message, size_t message_len, uint32_t day, const uint32_t *banks, size_t banks_len, const uint8_t *known,
+                   size_t known_len, uint8_t *table, size_t table_len, uint64_t *numbers, size_t numbers_len, uint8_t *id, size_t id_len);
+
+/* A single head (174 bytes) or item (249), without its ending. place is the number that an item has to carry; a head takes any.
+   Returns 0 where the record is accepted; below 100 a refusal: 1, 2, 3, 10; else 100 x the field's number + the kind's. A bad letter
+   comes first, then the fields in order, and in a field the first kind. */
+uint32_t nsh_single(const uint8_t *record, size_t record_len, uint32_t day, const uint32_t *banks, size_t banks_len, const uint8_t *known,
+                    size_t known_len, uint32_t place);
+
+/* Fields, answer / 100. */
+#define NSH_FIELD_TYPE 1
+#define NSH_FIELD_MESSAGE_TYPE 2
+#define NSH_FIELD_DUPLICATE_CODE 3
+#define NSH_FIELD_INITIATOR 4
+#define NSH_FIELD_IDENTIFIER 5
+#define NSH_FIELD_DATE 6
+#define NSH_FIELD_NUMBER 7
+#define NSH_FIELD_BANK 8
+#define NSH_FIELD_ACCOUNT 9
+#define NSH_FIELD_DEBIT_DATE 10
+#define NSH_FIELD_PURPOSE 11
+#define NSH_FIELD_NAME 12
+#define NSH_FIELD_REMARK 13
+#define NSH_FIELD_ITEM_NUMBER 14
+#define NSH_FIELD_AMOUNT 15
+#define NSH_FIELD_CUSTOMER_ID 16
+#define NSH_FIELD_ADDRESS 17
+#define NSH_FIELD_OWNER 18
+
+/* Kinds of fault, answer % 100. */
+#define NSH_KIND_LETTER 1
+#define NSH_KIND_MARK 2
+#define NSH_KIND_FORM 3
+#define NSH_KIND_NOT_DIGITS 4
+#define NSH_KIND_CHECK_DIGIT 5
+#define NSH_KIND_NO_DATE 6
+#define NSH_KIND_OUTSIDE_DAYS 7
+#define NSH_KIND_NOT_LISTED 8
+#define NSH_KIND_KNOWN 9
+#define NSH_KIND_BLANK_OR_ZERO 10
+#define NSH_KIND_OUT_OF_ORDER 11
+#define NSH_KIND_OTHER 12
+
+/* The STATUS reply to a whole message goes to the front of out: refusals 11, 1, 2, 3, 6, 7, 8, 9. numbers[0] is its length, 104 bytes
+   or 104 + 65 for each item; bytes of out beyond it stay. duplicate is '0' or '@', number the reply's, time hhmmss. The call keeps
+   10,000 bytes on the stack. */
+uint32_t nsh_reply(const uint8_t *message, size_t message_len, uint32_t day, const uint32_t *banks, size_t banks_len, const uint8_t *known,
+                   size_t known_len, uint8_t duplicate, uint32_t number, uint32_t time, uint8_t *out, size_t out_len, uint64_t *numbers,
+                   size_t numbers_len);
+
+/* A STATUS message is read: refusals 11, 10, 9. The k-th reference's code goes to byte k of the table, which may have any length of at
+   least the references. numbers: duplicate code (a byte), date, number, time, code, accepted count, accepted sum, refused count,
+   refused sum, references. id: positions 10-34. */
+uint32_t nsh_read_status(const uint8_t *bytes, size_t bytes_len, uint8_t *table, size_t table_len, uint64_t *numbers, size_t numbers_len,
+                         uint8_t *id, size_t id_len);
+
+#ifdef __cplusplus
+}
+#endif
+
+#endif
