@@ -1,0 +1,550 @@
+"""The cases of the program `trial`.
+
+    python3 reference/cases.py > crates/trial/stdin
+
+Prints the script that trial.py describes, the same each time: chance comes from
+a seed. Values and places are from document 01 and docs/CODES.md. Each case
+changes a base text a little: a good message of 1 to 5 items, a good head or
+item, or a right STATUS.
+"""
+
+import datetime
+import sys
+
+sys.dont_write_bytecode = True  # no folder of compiled files beside the sources
+
+import status
+
+E = 20200310
+BANKS = (1203457, 12345676, 16000009, 16000010, 44102036, 61000009, 99001203)
+KNOWN = (b"A12345676T001202003010002", b"5990000000009202003010007")
+PARTICULARS = b"0 0000000007 0000083000 1000"
+
+
+# Chance
+
+
+class Chance:
+    """Numbers in a fixed order, whatever the version of Python (Knuth's multiplier)."""
+
+    def __init__(self, seed):
+        self.state = seed
+
+    def under(self, n):
+        self.state = (self.state * 6364136223846793005 + 1442695040888963407) % 2**64
+        return (self.state >> 33) % n
+
+    def of(self, values):
+        return values[self.under(len(values))]
+
+    def bytes(self, n):
+        """Any bytes, more often those that mean something somewhere."""
+        return bytes(self.of((self.under(256), self.of(b"0123 9@A\r\n\x7f\x80\x81\xfb"))) for _ in range(n))
+
+
+chance = Chance(1)
+
+
+# Base texts
+
+
+def head(date=20200301, debit=20200310):
+    text = b"01ATUTAL0A12345676T001%08d0001160000091002003045678909%08dMUN" % (date, debit)
+    return text + b"Minta \x90p\xa1t\x8b Kft.".ljust(35) + b"m\xa0rciusi munkab\x82r".ljust(70)
+
+
+def item(k, amount, account):
+    text = b"02%06d20200311%010d61000009%-16sDOLGOZO-%04d" % (k, amount, account, k)
+    name = b"Kov\xa0cs Anna".ljust(35)
+    return text.ljust(74) + name + b"1011 Budapest, F\x8b u. 1.".ljust(35) + name + b"b\x82r".ljust(70)
+
+
+# Amounts and accounts. Zero accounts are watched (01, closing).
+ITEMS = (
+    (1000, b"1234567600001238"),
+    (250000, b"12345676"),
+    (9999999999, b"0" * 16),
+    (1, b"0" * 8),
+    (77, b"1002003045678909"),
+)
+
+
+def records(n):
+    """The records of a good message of n items."""
+    items = [item(k, *ITEMS[k - 1]) for k in range(1, n + 1)]
+    return [head()] + items + [b"03%06d%016d" % (n, sum(amount for amount, _ in ITEMS[:n]))]
+
+
+def joined(parts):
+    return b"".join(part + b"\r\n" for part in parts)
+
+
+def starts(n):
+    """Where each record of a good message of n items starts, and where the message ends."""
+    return [0] + [176 + 251 * k for k in range(n + 1)] + [202 + 251 * n]
+
+
+# Values of fields: (first position, bytes), bad ones and good ones at the edge
+
+
+def dates(day, *steps):
+    """Days before and after a day; a step beyond the calendar's ends is left out."""
+    e = datetime.date(day // 10000, day // 100 % 100, day % 100).toordinal()
+    days = [e + n for n in steps if 1 <= e + n <= datetime.date.max.toordinal()]
+    return [datetime.date.fromordinal(n).isoformat().replace("-", "").encode() for n in days]
+
+
+NO_DATES = b"20200230 20191301 20190229 21000229 20200010 20200300 00000229".split() + [b"2020031 ", b"2020\r\n10", b" " * 8]
+BANK_VALUES = b"16000009 61000009 99001203 16000010 00000000 12345677 01203457".split()
+BANK_VALUES += [b"1600000 ", b" 6000009", b"9900120\xff"]
+ACCOUNT_VALUES = b"1234567600001238 1234567600001239 0000000000000000 1600000900000000 6100000900000000".split()
+ACCOUNT_VALUES += [value.ljust(16) for value in (b"12345676", b"12345677", b"123456760", b"00000000", b"1234567", b"")]
+ACCOUNT_VALUES += [b"        12345676", b"12345676       0", b"123456760000123\r", b"12345676" + bytes(8)]
+LETTERS = bytes.fromhex("81828A8B9094999AA0A1A2A3B5D6E0E9EBFB")
+BAD_LETTERS = b"\x00\x1f\x7f\x80\x83\x8c\x9b\xa4\xb6\xd5\xe1\xea\xff\r\n\t"
+
+
+def placed(first, values):
+    return [(first, value) for value in values]
+
+
+def letters(first, last):
+    """A letter at the first or the last place of a text field, good ones and bad ones."""
+    return [(place, bytes([letter])) for letter in BAD_LETTERS + LETTERS + b" ~" for place in (first, last)]
+
+
+HEAD_VALUES = [
+    placed(1, [b"02", b"03", b"  ", b"0\xff", b"10", b"\r\n"]),
+    placed(3, [b"atutal", b"STATUS", b"ATUTA ", b"\x00TUTAL", b"BESZED"]),
+    placed(9, [b"1", b"9", b"@", b"/", b":", b"?", b"A", b" ", b"\x00", b"X"]),
+    placed(10, b"A12345677T001 A12345676t001 a12345676T001 A12345676T999 A16000009T000 A61000009T123".split()),
+    placed(10, b"5990000000009 5990000000008 0000000000000 E123456780000".split() + [b" " * 13, b"599000000000\xff"]),
+    placed(10, [b"A12345676    ", b"A12345676T00 ", b"A1234567 T001", b"\x80\xff\r\n\x00\x7f\x1f\x20\x7e\x81\x82\xfb\xa0"]),
+    placed(10, KNOWN),
+    placed(23, dates(E, -400, -16, -15, -14, -11, -10, -9, -1, 0, 1, 366) + NO_DATES),
+    placed(31, [b"0000", b"9999", b"0002", b"000 ", b"    ", b"-001", b"\r\n01", b"00\x7f1", b"000\xff"]),
+    placed(35, BANK_VALUES),
+    placed(43, ACCOUNT_VALUES),
+    placed(59, dates(E, -10, -9, -8, -1, 0, 1, 2, 3, 366) + NO_DATES),
+    placed(67, [b"BEB", b"VIL", b"NGY", b"CST", b"XXX", b"mun", b"MU ", b"   ", b"000", b"BEC", b"VIM"]),
+    placed(70, [b" " * 35, b"0" * 35, b" " * 34 + b"x", b" " * 34 + b"\xff"]),
+    letters(70, 104),
+    letters(105, 174),
+]
+ITEM_VALUES = [
+    placed(1, [b"01", b"00", b"04", b"2 ", b"  ", b"\r\n", b"03"]),
+    placed(3, b"000000 000001 000002 000003 000005 999999".split() + [b"00000 ", b"     1", b"00000\xff", b"\r\n0001"]),
+    placed(9, [b"        ", b"\x00\r\n\xff\x7f\x80  ", b"20200230"]),
+    placed(17, [b"0000000000", b"0000000001", b"9999999999", b"000000000 ", b"          ", b"+000000001", b"00000000\r\n"]),
+    placed(27, BANK_VALUES),
+    placed(35, ACCOUNT_VALUES),
+    placed(51, [b" " * 24, b"0" * 24, b" 0" * 12, b"0" * 23 + b"1", b" " * 23 + b"\xff"]),
+    placed(145, [b" " * 35, b"0" * 35, b"0 " * 17 + b"0", b" " * 34 + b"x", b"0" * 34 + b"\x7f"]),
+    letters(51, 74),
+    letters(75, 109),
+    letters(110, 144),
+    letters(145, 179),
+    letters(180, 249),
+]
+
+
+def foot_values(n):
+    total = sum(amount for amount, _ in ITEMS[:n])
+    return [
+        placed(1, [b"02", b"04", b"3 "]),
+        placed(3, [b"%06d" % (n + 1), b"%06d" % (n - 1), b"000000", b"%5d " % n, b"%6d" % n, b"00000\xa0"]),
+        placed(9, [b"%016d" % (total + 1), b"%016d" % (total - 1), b"0" * 16, b"9" * 16]),
+        placed(9, [b"%16d" % total, b"%015d\x82" % total]),
+    ]
+
+
+def at_chance(fields):
+    """A field's value; letters have many, so the field is drawn first."""
+    first, value = chance.of(chance.of(fields))
+    return first, value
+
+
+# Changes of a base text: (place, how many bytes go, bytes that come)
+
+
+def change(start, value):
+    """The value in its field, in the record that starts there."""
+    first, new = value
+    return start + first - 1, len(new), new
+
+
+def field_change(n):
+    """Any field of any record, head, item or foot, of a message of n items."""
+    record = chance.of((0, 0, n + 1, *range(1, n + 1)))
+    fields = HEAD_VALUES if record == 0 else foot_values(n) if record == n + 1 else ITEM_VALUES
+    return change(starts(n)[record], at_chance(fields))
+
+
+def break_changes(n):
+    """Every kind of place where a message of n items can break."""
+    found = [(starts(n)[-1], 0, new) for new in (b"0", b"\r\n", b"\n", b"03", joined(records(n)))]
+    for record, (start, end) in enumerate(zip(starts(n), starts(n)[1:])):
+        endings = (b"\n\r", b"\r\r", b"\n\n", b"\r", b"\n", b"", b"\r\n\r\n", b"  ", b"\r ", b" \n")
+        found += [(end - 2, 2, new) for new in endings]
+        cuts = (start, start + 1, start + 2, (start + end) // 2, end - 3, end - 2, end - 1)
+        found += [(cut, 9999, b"") for cut in cuts]  # the message ends here
+        found += [(start, 0, b"0"), (end - 3, 1, b""), (start, end - start, b"")]  # a byte more, a byte less, no record
+        if 0 < record <= n:
+            found += [(start, 0, joined(records(1)[-1:])), (start, 2, b"03")]  # a foot before an item
+    return found
+
+
+def damage(length):
+    """A byte or a few: other bytes, fewer, more."""
+    place, n = chance.under(length), 1 + chance.under(3)
+    gone, come = chance.of(((1, 1), (1, 1), (n, n), (n, 0), (0, n)))
+    return place, gone, chance.bytes(come)
+
+
+def ascending(changes):
+    """The changes in order, without those that overlap an earlier one."""
+    kept = []
+    for place, gone, new in sorted(changes):
+        if not kept or kept[-1][0] + kept[-1][1] <= place > kept[-1][0]:
+            kept.append((place, gone, new))
+    return kept
+
+
+# Cuts
+
+
+def cuts(n):
+    """Up to six cuts, more often near the edge of a record, or a run of single bytes there; two may be equal."""
+    edge = max(0, chance.of(starts(n)) + chance.under(7) - 3)
+    if chance.under(20) == 0:
+        return list(range(edge, edge + 9))
+    near = (chance.of(starts(n)) + chance.under(5) for _ in range(chance.under(4)))
+    anywhere = (chance.under(starts(n)[-1]) for _ in range(chance.under(4)))
+    return sorted([edge] * chance.under(3) + [*near, *anywhere])
+
+
+# Lines
+
+
+def line(letter, rest):
+    sys.stdout.buffer.write(letter + b" " + rest + b"\n")
+
+
+def comment(text):
+    line(b"#", text.encode())
+
+
+def written(changes):
+    """The changes after |, nothing where there are none."""
+    text = b"".join(b" %04d%04d%s" % (place, gone, new.hex().encode()) for place, gone, new in ascending(changes))
+    return b"|" + text if text else b""
+
+
+def base(parts, endings=True):
+    """The lines that make the base text of these records."""
+    line(b"m", b"")
+    for part in parts:
+        line(b"+" if endings else b"-", part)
+
+
+def message_case(n, changes, table=None):
+    """A j line; the table has a byte for each item, or a few more, where nothing else is said."""
+    length = n + chance.of((0, 0, 0, 1, 4)) if table is None else table
+    line(b"j", b"%05d " % length + b"".join(b"%04d" % cut for cut in cuts(n)) + written(changes))
+
+
+def single_case(k, changes):
+    line(b"s", b"%010d" % k + written(changes))
+
+
+def status_case(length, changes):
+    line(b"r", b"%05d" % length + written(changes))
+
+
+def given(day=E, banks=BANKS, known=KNOWN):
+    line(b"e", b"%08d" % day)
+    line(b"b", b"".join(b"%010d" % bank for bank in banks))
+    line(b"k", b"".join(known))
+
+
+# Lists and days that are refused, and some that aren't
+
+BAD_BANKS = ((2, 1), (16000009, 16000009), (61000009, 100000000), (0, 61000009, 16000009), (4294967295,))
+GOOD_BANKS = ((), (16000009,), (0, 16000009, 61000009), (61000009, 99999999), BANKS)
+BAD_KNOWN = ((KNOWN[0][:24],), (*KNOWN, b"0"), (b"x",), (*KNOWN, KNOWN[1][1:]))
+GOOD_KNOWN = ((), KNOWN[:1], (b"A12345676T001202003010001",), (b" " + KNOWN[0], KNOWN[1][1:]), KNOWN)
+NO_DAYS = (0, 20200230, 20190229, 100000, 20201301)
+DAYS = (20200229, 20200301, 20210105, 20000315, 19000310, 10101, 10110, 99991231, 99991225)
+
+
+# The cases
+
+
+def messages_alone():
+    """Every value of every field alone: those of the head and of an item once, in turn over the five lengths."""
+    flat = lambda fields: [value for values in fields for value in values]
+    for n in range(1, 6):
+        comment("messages of %d items: good, each value of a field alone" % n)
+        base(records(n))
+        message_case(n, [])
+        for value in flat(HEAD_VALUES)[n - 1 :: 5]:
+            message_case(n, [change(0, value)])
+        for value in flat(ITEM_VALUES)[n - 1 :: 5]:
+            message_case(n, [change(starts(n)[1 + chance.under(n)], value)])
+        for value in flat(foot_values(n)):
+            message_case(n, [change(starts(n)[n + 1], value)])
+
+
+def messages_broken():
+    for n in (1, 2, 4):
+        comment("messages of %d items: breaks at every kind of place, alone and after another fault" % n)
+        base(records(n))
+        for found in break_changes(n):
+            message_case(n, [found])
+            if chance.under(2):
+                message_case(n, [found, field_change(n)], chance.of((n, n, 0, 1)))
+
+
+# One fault for each code in rank order: the record (0 the head, 2 the second item, -2 the foot) and the value.
+RANKED = [
+    *((0, value) for value in ((105, b"\x80"), (1, b"02"), (3, b"STATUS"), (9, b"X"), (10, b"A12345677T001"), (10, KNOWN[0]))),
+    *((0, value) for value in ((23, b"20200311"), (31, b"000 "), (35, b"12345677"), (43, b"123456760       "))),
+    *((0, value) for value in ((59, b"20200309"), (67, b"XXX"), (70, b" " * 35))),
+    *((2, value) for value in ((180, b"\xff"), (1, b"01"), (17, b"000000000 "))),
+    *((2, value) for value in ((3, b"00000 "), (3, b"000001"), (17, b"0000000000"), (27, b"00000000"), (35, b"12345677"))),
+    *((2, value) for value in ((51, b" " * 24), (145, b"0" * 35))),
+    *((-2, value) for value in ((3, b"000004"), (9, b"0" * 16))),
+]
+
+
+def messages_in_pairs():
+    """Each two of the faults; those of an item stand in two items where both are of one."""
+    comment("messages of 3 items: each two faults that have a code")
+    base(records(3))
+    at = starts(3)
+    for k, (record, value) in enumerate(RANKED):
+        for other, later in RANKED[:k]:
+            place = other if other < 1 else chance.of((1, 3, 2))
+            message_case(3, [change(at[record], value), change(at[place], later)])
+
+
+def messages_in_rank(count):
+    for n in range(1, 6):
+        comment("messages of %d items: two to four faults, the first in rank decides" % n)
+        base(records(n))
+        for _ in range(count):
+            message_case(n, [field_change(n) for _ in range(2 + chance.under(3))])
+
+
+def messages_overflowing():
+    for n in range(1, 6):
+        comment("messages of %d items: tables of every length around that, the longest and one byte more" % n)
+        base(records(n))
+        for length in (*range(n + 2), 10000, 10001):
+            message_case(n, [], length)
+            message_case(n, [field_change(n)], length)
+            message_case(n, [field_change(n), chance.of(break_changes(n))], length)
+
+
+def messages_damaged(count):
+    for n in range(1, 6):
+        comment("messages of %d items: random damage, random ends" % n)
+        base(records(n))
+        for _ in range(count):
+            message_case(n, [damage(starts(n)[-1]) for _ in range(1 + chance.under(4))])
+            if chance.under(3) == 0:
+                end = chance.under(chance.of((40, starts(n)[-1])))
+                message_case(n, [(end, 9999, chance.bytes(chance.under(3)))])
+
+
+def messages_given():
+    """E and lists, wrong ones alone and together: 1, 4, 2, 3 in this order, then 6."""
+    base(records(2))
+    comment("two items: E and lists, right and wrong")
+    for banks in GOOD_BANKS + BAD_BANKS:
+        for known in (chance.of(GOOD_KNOWN), chance.of(GOOD_KNOWN), chance.of(BAD_KNOWN)):
+            given(chance.of((E, E, E, chance.of(NO_DAYS))), banks, known)
+            for length in (2, 1, 10001):
+                message_case(2, [], length)
+                message_case(2, [field_change(2)], length)
+    for known in GOOD_KNOWN + BAD_KNOWN:
+        given(known=known)
+        message_case(2, [])
+        message_case(2, [change(0, (10, chance.of(KNOWN)))])
+        message_case(2, [(20, 9999, b"")])
+    for day in NO_DAYS:
+        given(day)
+        message_case(2, [], 10001)
+        message_case(2, [], 0)
+    given()
+
+
+def days_changes(day):
+    """Dates and debit dates around E, in pairs."""
+    debits = dates(day, -1, 0, 1, 9, 10, 11)
+    return [[change(0, (23, a)), change(0, (59, b))] for a in dates(day, -16, -15, -11, -10, -1, 0, 1) for b in debits]
+
+
+def messages_by_days():
+    base(records(1))
+    for day in (E, *DAYS):
+        comment("one item: E %08d, dates around it" % day)
+        given(day)
+        for changes in days_changes(day):
+            if chance.under(2):
+                message_case(1, changes)
+    given()
+
+
+def replies_by_particulars():
+    base(records(3))
+    comment("three items: particulars and outputs, right and wrong, the references' refusals before")
+    whole = 104 + 65 * 3
+    for duplicate in (b"0", b"@", b"1", b"9", b"A", b" ", b"\xff"):
+        number, time = chance.of((0, 7, 9999)), chance.of((0, 83000, 235959))
+        particulars_case(duplicate, number, time, chance.of((whole, 1000)))
+    for number in (0, 9999, 10000, 99999, 4294967295):
+        particulars_case(b"0", number, 83000, whole)
+    for time in (0, 59, 60, 5959, 6000, 5960, 235959, 235960, 236000, 240000, 999999, 1000000, 4294967295):
+        particulars_case(b"@", 7, time, whole)
+    for room in (0, 1, 55, 56, 103, 104, 105, 168, whole - 1, whole, whole + 1, 2000):
+        particulars_case(b"0", 7, 83000, room)
+    line(b"p", PARTICULARS)
+
+
+def particulars_case(duplicate, number, time, room):
+    """A p line and a few messages: good, with a T code, with any fault, broken or too short, with a byte in 10-34."""
+    line(b"p", duplicate + b" %010d %010d %04d" % (number, time, room))
+    message_case(3, [])
+    message_case(3, [change(starts(3)[1 + chance.under(3)], at_chance(ITEM_VALUES[4:8]))])
+    message_case(3, [field_change(3)], chance.of((0, 2, 3)))
+    message_case(3, [(chance.of((33, 34, 175, 176, 500)), 9999, b"")])
+    message_case(3, [change(0, (10 + chance.under(25), chance.of((b"\x1f", b"\x7f", b"\x80", b"\r", b"~", b" "))))])
+
+
+def singles(count):
+    for record, fields, name in ((records(1)[0], HEAD_VALUES, "head"), (records(1)[1], ITEM_VALUES, "item")):
+        base([record], endings=False)
+        comment("a single %s: each value, places, two and three faults, damage, other lengths" % name)
+        for values in fields:
+            for value in values if len(values) < 40 else values[chance.under(2) :: 2]:
+                single_case(1, [change(0, value)])
+        for k in (0, 1, 2, 999999, 1000000, 4294967295, 4294967297, 9999999999):
+            single_case(k, [])
+            single_case(k, [change(0, (3, b"%06d" % (k % 1000000)))] if name == "item" else [])
+        for _ in range(count):
+            single_case(1, [change(0, at_chance(fields)) for _ in range(2 + chance.under(2))])
+        for _ in range(count // 2):
+            single_case(1, [damage(len(record))])
+        for text in (b"", b"0", b"\r\n"):
+            single_case(1, [(len(record), 0, text)])
+            single_case(1, [(len(record) - 1, 1, text)])
+        single_case(1, [(0, 9999, b"")])
+
+
+def singles_given():
+    comment("a single item, then a single head: E and lists, right and wrong, another length")
+    for record in (records(1)[1], records(1)[0]):
+        base([record], endings=False)
+        for banks in GOOD_BANKS + BAD_BANKS:
+            given(chance.of((E, E, *NO_DAYS[:2])), banks, chance.of(GOOD_KNOWN + BAD_KNOWN))
+            single_case(1, [])
+            single_case(1, [(9, 1, b"")])
+        for known in GOOD_KNOWN + BAD_KNOWN:
+            given(known=known)
+            single_case(1, [])
+            single_case(1, [change(0, (10, chance.of(KNOWN)))])
+    for day in (E, *DAYS):
+        given(day)
+        for changes in days_changes(day):
+            if chance.under(2):
+                single_case(1, changes)
+    given()
+
+
+# STATUS messages
+
+# Places in the records (01 "Records"): marks, duplicate code, 10-34, digits, codes.
+STATUS_HEAD = [
+    placed(1, [b"02", b"00", b"1 "]),
+    placed(3, [b"ATUTAL", b"STATUs", b"STATU\xff"]),
+    placed(9, [b"@", b"1", b"A", b" ", b"/"]),
+    placed(10, [b"\x1f", b"\x7f", b"\x80", b"~", b" ", b"\r"]),
+    placed(34, [b"\x1f", b"\x7f", b"\xff", b"~", b" ", b"\n"]),
+    placed(35, [b"00000000", b"99999999", b"2020031 ", b"/0200310", b":0200310"]),
+    placed(43, [b"0000", b"9999", b"000 ", b"\xff000"]),
+    placed(47, [b"000000", b"999999", b"08300 ", b"x83000"]),
+    placed(53, [b"00", b"01", b"26", b"99", b"0 ", b" 0", b"a0"]),
+]
+STATUS_REFERENCE = [
+    placed(1, [b"01", b"03", b"2 ", b"\r\n"]),
+    placed(3, [b"000000", b"000001", b"000002", b"000003", b"00000 ", b"     1", b"100001"]),
+    placed(9, [b"00", b"01", b"77", b"99", b"0 ", b" 0", b"/0", b"0:"]),
+    placed(11, [b"0", b"\x00\xff\r\n", b"\x80" * 53]),
+    placed(63, [b"\n", b"\xff"]),
+]
+STATUS_FOOT = [
+    placed(1, [b"02", b"04", b"3 "]),
+    placed(3, [b"000000", b"000001", b"000002", b"000003", b"000004", b"00000 ", b"     3"]),
+    placed(9, [b"0000000000000001", b"9999999999999999", b"000000000000000 "]),
+    placed(25, [b"000000", b"000001", b"000002", b"000003", b"00000 ", b"\xff00000"]),
+    placed(31, [b"0000000000000001", b"9999999999999999", b"000000000000000\xff", b"               0"]),
+]
+
+
+def reply(changes):
+    """The reply's records to a message of three items with these changes."""
+    text = joined(records(3))
+    for place, gone, new in reversed(ascending(changes)):
+        text = text[:place] + new + text[place + gone :]
+    written = status.reply(text, E, list(BANKS), b"".join(KNOWN), b"0"[0], 7, 83000, 1000)
+    return written.split(b"\r\n")[:-1]
+
+
+def statuses(count):
+    faults = [change(starts(3)[2], (51, b"0" * 24)), change(starts(3)[3], (17, b"0" * 10))]
+    refused = [change(0, (9, b"X"))]
+    for changes, name in (([], "three items"), (faults, "three items, two refused"), (refused, "a refused message")):
+        parts = reply(changes)
+        comment("STATUS of %s: each value, endings, ends, two faults, damage, tables" % name)
+        base(parts)
+        at = [sum(len(part) + 2 for part in parts[:k]) for k in range(len(parts) + 1)]
+        kinds = [STATUS_HEAD] + [STATUS_REFERENCE] * (len(parts) - 2) + [STATUS_FOOT]
+        for length in (*range(6), 10001):
+            status_case(length, [])
+        for start, fields in zip(at, kinds):
+            for values in fields:
+                for value in values:
+                    if fields is not STATUS_REFERENCE or chance.under(2):
+                        status_case(3, [change(start, value)])
+        for start, end in zip(at, at[1:]):
+            for place, gone, new in ((end - 2, 2, b"\n\r"), (end - 2, 2, b""), (end, 0, b"0"), (end - 3, 1, b"")):
+                status_case(3, [(place, gone, new)])
+            for place, gone in ((end - 1, 9999), (start, 9999), (start, end - start)):
+                status_case(3, [(place, gone, b"")])
+        for _ in range(count):
+            two = [chance.of(list(zip(at, kinds))) for _ in range(2)]
+            status_case(chance.of((3, 3, 2, 10)), [change(start, at_chance(fields)) for start, fields in two])
+            status_case(3, [damage(at[-1])])
+
+
+def main():
+    comment("Cases of reference/cases.py. E 20200310, seven banks, two known identifiers, reply 0, 7, 083000")
+    given()
+    line(b"p", PARTICULARS)
+    messages_alone()
+    messages_broken()
+    messages_in_pairs()
+    messages_in_rank(80)
+    messages_overflowing()
+    messages_damaged(80)
+    messages_given()
+    messages_by_days()
+    replies_by_particulars()
+    singles(100)
+    singles_given()
+    statuses(40)
+
+
+if __name__ == "__main__":
+    main()
