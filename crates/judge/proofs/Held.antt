@@ -1,15 +1,16 @@
--- The bytes held with zeros after them, bytes added to them, and the bounds of a record's length.
+-- The bytes held with zeros after them, and the bounds of a record's length.
 -- Assumes nothing.
-use mathlib.Core.Path.{_≡_, refl, sym, ap, ap₂, _∙_}
+use mathlib.Core.Path.{_≡_, refl, sym, ap, _∙_}
 use mathlib.Core.Bool.{Bool, true, false, cond, _&&_, false≢true}
-use mathlib.Core.List.{List, [], _∷_, _++_, append-assoc, append-nil}
+use mathlib.Core.List.{List, [], _∷_, _++_, append-nil}
 use Prim.Native.Nat.{ℕ, suc, _+_, _-_, _≤_, _<_}
 use native.Mathlib.Omega.{arith}
 use native.Mathlib.Numerals.{add-one}
-use lib.ListN.{length, getD, take, set, replicate, length-append, length-replicate}
-use lib.Seq.{length-take-le, set-at, take-at, take-suc, take-all, append-snoc}
+use lib.ListN.{length, take, drop, set, replicate, length-append}
+use lib.Seq.{length-take-le, take-at, take-suc-set, take-all, append-snoc}
 use lib.Dec.{leb, eqb}
 use borrow.Author.Tests.{leb-true, eq-eqb, ne-eqb}
+use Rattle.base.specs.Bytes.{over}
 use Rattle.calendar.specs.Calendar.{isDate}
 use Rattle.frame.specs.Records.{isFoot}
 use Rattle.frame.specs.Verdict.{Verdict, blank}
@@ -20,10 +21,6 @@ use Rattle.judge.specs.Session.{pad, stateWith, whole, tallyInRange, inR
 use Rattle.judge.specs.declared.Tally.{Tally}
 use Rattle.judge.specs.declared.Session.{Session}
 
-pub length-pad : (h : List ℕ) → length h ≤ 251 → length (pad h) ≡ 251
-unfolding pad
-length-pad h l = rw (length-append, length-replicate) (omega arith)
-
 pub take-pad : (h : List ℕ) (n : ℕ) → length h ≡ n → take n (pad h) ≡ h
 unfolding pad
 take-pad h n e = take-at h (replicate (251 - length h) 0) n e
@@ -32,41 +29,28 @@ pub pad-none : replicate 251 0 ≡ pad []
 unfolding pad
 pad-none = refl
 
--- a byte at the end of what is held
-pub pad-more : (h : List ℕ) (b : ℕ) → length h < 251 → set (pad h) (length h) b ≡ pad (h ++ (b ∷ []))
+-- a zero at the end of what is held is one of the zeros after it
+pad-zero : (h : List ℕ) → length h < 251 → pad (h ++ (0 ∷ [])) ≡ pad h
 unfolding pad
-pad-more h b l =
-    let e : 251 - length h ≡ suc (251 - length (h ++ (b ∷ []))) = omega (arith, length-append h (b ∷ [])) in
-    let z : List ℕ = replicate (251 - length (h ++ (b ∷ []))) 0 in
-    rw e (set-at h 0 z b (length h) refl ∙ sym (append-snoc h b z))
+pad-zero h l =
+    let e : 251 - length h ≡ suc (251 - length (h ++ (0 ∷ []))) = omega (arith, length-append h (0 ∷ [])) in
+    rw e (append-snoc h 0 (replicate (251 - length (h ++ (0 ∷ []))) 0))
 
--- one byte more of what is copied
-pub copy-more : (x a : List ℕ) (i : ℕ) → length x ≡ 251 → i < 251 → a ≡ pad (take i x) → set a i (getD x i 0) ≡ pad (take (i + 1) x)
-copy-more x a i l m e =
-    let b : ℕ = getD x i 0 in
-    let k : length (take i x) ≡ i = length-take-le i x (omega arith) in
-    ap (λ (c : List ℕ). set c i b) e
-    ∙ ap (λ (j : ℕ). set (pad (take i x)) j b) (sym k)
-    ∙ pad-more (take i x) b (omega arith)
-    ∙ ap pad (sym (take-suc x i 0 (omega arith)) ∙ ap (λ (j : ℕ). take j x) (sym (add-one i)))
+-- bytes put after the first n, with what stands before them
+pub over-front : (h : List ℕ) (n : ℕ) (y : List ℕ) → n ≤ length h → take (n + length y) (over h n y) ≡ take n h ++ y
+unfolding over
+over-front h n y l =
+    take-at (take n h ++ y) (drop (n + length y) h) (n + length y) (length-append (take n h) y ∙ ap (λ (m : ℕ). m + length y) (length-take-le n h l))
 
--- the bytes of x, one after the other, at the end of h
-module _ (h x : List ℕ) (l : length h + length x ≤ 251) where
-  pub put-none : pad h ≡ pad (h ++ take 0 x)
-  put-none = ap pad (sym (append-nil h))
+-- zeros from a place on, one after the other
+pub clear-more : (h : List ℕ) (i : ℕ) → length h ≡ 251 → i < 251 → pad (take (i + 1) (set h i 0)) ≡ pad (take i h)
+clear-more h i l m =
+    let k : length (take i h) ≡ i = length-take-le i h (omega arith) in
+    ap pad (ap (λ (j : ℕ). take j (set h i 0)) (add-one i) ∙ take-suc-set h i 0 (omega arith)) ∙ pad-zero (take i h) (omega arith)
 
-  pub put-more : (a : List ℕ) (n i : ℕ) → length h ≡ n → i < length x → a ≡ pad (h ++ take i x) → set a (n + i) (getD x i 0) ≡ pad (h ++ take (i + 1) x)
-  put-more a n i e m q =
-      let g : List ℕ = h ++ take i x in
-      let b : ℕ = getD x i 0 in
-      let k : length g ≡ n + i = length-append h (take i x) ∙ ap₂ (λ (p r : ℕ). p + r) e (length-take-le i x (omega arith)) in
-      ap (λ (c : List ℕ). set c (n + i) b) q
-      ∙ ap (λ (j : ℕ). set (pad g) j b) (sym k)
-      ∙ pad-more g b (omega arith)
-      ∙ ap pad (append-assoc h (take i x) (b ∷ []) ∙ ap (λ (c : List ℕ). h ++ c) (sym (take-suc x i 0 m) ∙ ap (λ (j : ℕ). take j x) (sym (add-one i))))
-
-  pub put-all : (a : List ℕ) (i : ℕ) → length x ≤ i → a ≡ pad (h ++ take i x) → a ≡ pad (h ++ x)
-  put-all a i m q = q ∙ ap (λ (c : List ℕ). pad (h ++ c)) (take-all i x m)
+pub clear-all : (h : List ℕ) (i : ℕ) → length h ≡ 251 → 251 ≤ i → h ≡ pad (take i h)
+unfolding pad
+clear-all h i l m = rw (take-all i h (omega arith), l) (sym (append-nil h))
 
 -- the length, with its ending, of the record begun
 module _ (p : ℕ) (x : List ℕ) where
@@ -99,9 +83,6 @@ module _ (p : ℕ) (x : List ℕ) where
       go true b = omega arith
       go false true = omega arith
       go false false = omega arith
-
-pub whole-start : (x : List ℕ) → whole 0 x ≡ 176
-whole-start x = whole-head 0 x refl
 
 pub whole-front : (p n : ℕ) (x : List ℕ) → 2 ≤ n → n ≤ length x → whole p (take n x) ≡ whole p x
 whole-front p n x m l = size-front (rules 0 [] []) p n x m l

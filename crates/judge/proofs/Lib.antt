@@ -1,3 +1,4 @@
+pub mod Arms
 pub mod Held
 pub mod Tallies
 pub mod Valid

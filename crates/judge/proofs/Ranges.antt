@@ -99,7 +99,7 @@ in-range s v =
     (held-in (c .phase) (s .fill) (s .held) (v .early) (v .late))
 
 -- beside its table, a session in range can be read on
-pub fit : (s : Session) (t : List ℕ) → inRange s ≡ true → length t ≡ s .room → Fit s t
+pub fit : (s : Session) (t : List ℕ) → inRange s ≡ true → length t ≡ s .room → Fit (s .tally) (s .fill) (s .held) t
 fit s t e l =
     let v = ranged s e in
     record {
@@ -112,7 +112,6 @@ fit s t e l =
         refused = v .refused;
         zeros = v .zeros;
       };
-      room = l;
       early = v .early;
       late = v .late;
     }

@@ -1,28 +1,32 @@
 -- Reading a piece: whole records one after the other, and a record begun that is completed, are runs of the machine.
 -- Assumes nothing.
-use mathlib.Core.Path.{_≡_, refl, sym, ap, _∙_, subst}
-use mathlib.Core.Bool.{Bool, true, false, cond, _&&_}
-use mathlib.Core.List.{List, [], _∷_, _++_, append-nil}
-use Prim.Native.Nat.{ℕ, zero, suc, _+_, _-_, _≤_, _<_}
-use native.Mathlib.Nat.{sub-self, zero-add, add-zero}
+use mathlib.Core.Path.{_≡_, refl, sym, ap, ap₂, _∙_}
+use mathlib.Core.Bool.{Bool, true, false}
+use mathlib.Core.List.{List, [], _∷_, _++_}
+use Prim.Native.Nat.{ℕ, _+_, _-_, _≤_, _<_}
+use native.Mathlib.Nat.{sub-self}
+use native.Mathlib.Numerals.{add-one}
 use native.Mathlib.Omega.{arith}
-use lib.ListN.{length, take, drop, length-append, length-drop, take-append-drop}
-use lib.Seq.{length-take-le, take-add, take-all, take-at, drop-drop}
-use lib.Dec.{leb, ltb, eqb}
-use borrow.Author.Tests.{le-leb, lt-leb, leb-true, leb-false, eqb-true, eqb-false, eq-eqb, ne-eqb, lt-ltb, le-ltb}
-use Rattle.frame.specs.Records.{isFoot}
-use Rattle.frame.specs.Verdict.{Rules}
-use Rattle.frame.specs.Machine.{State, at, size, headRead, itemCounted, itemRead, footRead, judged, step, run}
-use Rattle.frame.proofs.Pieces.{foot-front, run-append, run-exact, run-kept, run-whole, size-front, size-seen, run-broken, run-overflown, run-after}
+use lib.ListN.{length, getD, take, drop, set, length-append, length-drop, length-set, take-append-drop}
+use lib.Seq.{length-take-le, take-add, take-set-le, take-suc-set, getD-take, drop-cons, drop-drop, append-snoc}
+use lib.Dec.{leb, eqb}
+use borrow.Author.Tests.{leb-true, leb-false, eqb-true, eqb-false}
+use borrow.Rule.Slice.PartMut.{putMid}
+use Rattle.base.specs.Bytes.{over}
+use Rattle.base.proofs.Over.{length-over}
 use Rattle.base.proofs.Parts.{tail}
+use Rattle.text.specs.Text.{withBytes}
+use Rattle.text.proofs.At.{put-at}
+use Rattle.frame.specs.Verdict.{Rules}
+use Rattle.frame.specs.Machine.{State, at, size, headRead, itemCounted, itemRead, footRead, judged, run}
+use Rattle.frame.proofs.Pieces.{run-append, run-exact, run-kept, run-whole, size-front, size-seen, run-broken, run-overflown, run-after}
 use Rattle.rules.specs.Codes.{rules}
 use Rattle.judge.specs.declared.Tally.{Tally}
-use Rattle.judge.specs.declared.Session.{Session}
-use Rattle.judge.specs.declared.Begun.{Begun}
+use Rattle.judge.specs.declared.Left.{Left}
 use Rattle.judge.specs.declared.Walked.{Walked}
-use Rattle.judge.specs.Session.{pad, stateWith, stateOf, tallyOf, sessionOf, whole}
-use Rattle.judge.specs.Reading.{Ready, Read, Fit, Shows, gatheredOf, betweenOf, endedOf, Became, BegunOf, WalkedOf}
-use Rattle.judge.proofs.Held.{length-pad, pad-none, take-pad, whole-least, whole-most, whole-front}
+use Rattle.judge.specs.Session.{pad, stateWith, tallyOf, whole}
+use Rattle.judge.specs.Reading.{Ready, Read, Fit, Partial, Became, EndedAs, WalkedOf}
+use Rattle.judge.proofs.Held.{over-front, whole-least, whole-most, whole-front}
 use Rattle.judge.proofs.Valid.{Valid, ready-valid, valid-ready, read-state, valid-judged, judged-none}
 
 module _ (e : ℕ) (banks known : List ℕ) where
@@ -32,6 +36,10 @@ module _ (e : ℕ) (banks known : List ℕ) where
   size-whole : (p : ℕ) (x : List ℕ) → size R p x ≡ whole p x
   unfolding size
   size-whole p x = refl
+
+  size-more : (p : ℕ) (x : List ℕ) → length x < whole p x → length x < size R p x
+  unfolding size
+  size-more p x l = l
 
   -- whole records, one after the other
   pub record Walk (s₀ : State) (x : List ℕ) (k : ℕ) (c : Tally) (t : List ℕ) : Type 0 where
@@ -90,186 +98,6 @@ module _ (e : ℕ) (banks known : List ℕ) where
             valid = rw judges (valid-judged e banks known (stateWith c [] t) (ready-valid c [] t walk-ready) y);
           }
 
--- the length by whether it is the head and whether it is a foot
-abbrev of : Bool → Bool → ℕ
-of h f = cond h 176 (cond f 26 251)
-
--- the kind of a record that shows: by its first two bytes, or it is the head
-whole-taken : (p n : ℕ) (x : List ℕ) → (p ≡ 1 → 2 ≤ n) → p ≤ 1 → n ≤ length x → whole p (take n x) ≡ whole p x
-unfolding size
-whole-taken p n x f h l = go (eqb p 0) refl
-  where
-    go : (b : Bool) → eqb p 0 ≡ b → of b (isFoot (take n x)) ≡ of b (isFoot x)
-    go true q = refl
-    go false q = ap (of false) (foot-front n x (f (omega (arith, eqb-false p 0 q))) l)
-
-whole-joined : (p : ℕ) (g y : List ℕ) → (p ≡ 1 → 2 ≤ length g) → p ≤ 1 → whole p (g ++ y) ≡ whole p g
-unfolding size
-whole-joined p g y f h = go (eqb p 0) refl
-  where
-    go : (b : Bool) → eqb p 0 ≡ b → of b (isFoot (g ++ y)) ≡ of b (isFoot g)
-    go true q = refl
-    go false q =
-        let m : 2 ≤ length g = f (omega (arith, eqb-false p 0 q)) in
-        ap (of false) (sym (foot-front (length g) (g ++ y) m (omega (arith, length-append g y))) ∙ ap isFoot (take-at g y (length g) refl))
-
--- a record begun whose kind shows
-module _ (e : ℕ) (banks known : List ℕ) (s : Session) (t : List ℕ) (f : Fit s t) (w : Shows s) (l : length (s .held) ≡ 251) where
-  abbrev g : List ℕ
-  g = take (s .fill) (s .held)
-
-  abbrev p : ℕ
-  p = s .tally .phase
-
-  begun-short : s .fill < whole p g
-  begun-short = f .early (w .early)
-
-  begun-length : length g ≡ s .fill
-  begun-length = length-take-le (s .fill) (s .held) (omega (arith, begun-short, whole-most p g))
-
-  -- the size shows in what is held
-  pub begun-whole : whole p g ≡ whole p (s .held)
-  begun-whole = whole-taken p (s .fill) (s .held) (w .kind) (w .early) (omega (arith, begun-short, whole-most p g))
-
-  module _ (y : List ℕ) where
-    joined-length : length (g ++ y) ≡ s .fill + length y
-    joined-length = length-append g y ∙ ap (λ (n : ℕ). n + length y) begun-length
-
-    joined-whole : whole p (g ++ y) ≡ whole p g
-    joined-whole = whole-joined p g y (λ q. omega (arith, w .kind q, begun-length)) (w .early)
-
-    kept : s .fill + length y < whole p (s .held) → run (rules e banks known) (stateOf s t) y ≡ at p (g ++ y) (stateOf s t)
-    kept h = run-kept (rules e banks known) (stateOf s t) g y (w .early) refl (subst (λ (n : ℕ). length (g ++ y) < n) (sym (size-whole e banks known p (g ++ y))) (omega (arith, joined-length, joined-whole, begun-whole)))
-
-    -- not whole yet
-    pub kept-session : s .fill + length y < whole p (s .held) → Became (s .day) (s .room) (run (rules e banks known) (stateOf s t) y) (gatheredOf s y) t
-    kept-session h = rw (kept h) (record { next = rw joined-length; bytes = refl })
-
-    pub kept-told : s .fill + length y < whole p (s .held) → run (rules e banks known) (stateOf s t) y .told ≡ 0
-    kept-told h = rw (kept h)
-
-  judged-any : (h r : List ℕ) → judged (rules e banks known) (stateWith (s .tally) h t) r ≡ judged (rules e banks known) (stateWith (s .tally) [] t) r
-  unfolding judged headRead itemCounted itemRead footRead
-  judged-any h r = refl
-
-  -- whole
-  pub completes : (y : List ℕ) → s .fill + length y ≡ whole p (s .held) → run (rules e banks known) (stateOf s t) y ≡ judged (rules e banks known) (stateWith (s .tally) [] t) (g ++ y)
-  completes [] h = absurd (omega (arith, begun-short, begun-whole))
-  completes (b ∷ y) h =
-      run-whole (rules e banks known) (stateOf s t) g b y (w .early) refl (joined-length (b ∷ y) ∙ h ∙ sym (size-whole e banks known p (g ++ (b ∷ y)) ∙ joined-whole (b ∷ y) ∙ begun-whole))
-      ∙ judged-any g (g ++ (b ∷ y))
-
-  -- a byte is lacking
-  pub lacks : s .fill < whole p (s .held)
-  lacks = omega (arith, begun-short, begun-whole)
-
-  pub most : whole p (s .held) ≤ 251
-  most = whole-most p (s .held)
-
-  -- what was gathered, where it is whole
-  module _ (y : List ℕ) (h : s .fill + length y ≡ whole p (s .held)) (s₂ : Session) (q : s₂ ≡ gatheredOf s y) where
-    pub gathered-is : take (s₂ .fill) (s₂ .held) ≡ g ++ y
-    gathered-is = rw q (take-pad (g ++ y) (s .fill + length y) (joined-length y))
-
-    pub gathered-whole : length (take (s₂ .fill) (s₂ .held)) ≡ whole p (take (s₂ .fill) (s₂ .held))
-    gathered-whole = rw gathered-is (joined-length y ∙ h ∙ sym (joined-whole y ∙ begun-whole))
-
-    pub gathered-count : s₂ .fill ≡ length (take (s₂ .fill) (s₂ .held))
-    gathered-count = ap (λ (a : Session). a .fill) q ∙ sym (ap length gathered-is ∙ joined-length y)
-
-    pub gathered-room : s₂ .fill ≤ length (s₂ .held)
-    gathered-room =
-        let n : length (pad (g ++ y)) ≡ 251 = length-pad (g ++ y) (omega (arith, joined-length y, h, most)) in
-        omega (arith, ap (λ (a : Session). a .fill) q, ap (λ (a : Session). length (a .held)) q, h, most)
-
-    pub completed-session : (n : Session) (c′ : Tally) (t′ : List ℕ) → Read (judged (rules e banks known) (stateWith (s .tally) [] t) (take (s₂ .fill) (s₂ .held))) c′ t′ → n ≡ betweenOf s c′
-        → Became (s .day) (s .room) (run (rules e banks known) (stateOf s t) y) n t′
-    completed-session n c′ t′ r b =
-        let R = rules e banks known in
-        let j = judged R (stateWith (s .tally) [] t) (g ++ y) in
-        let r′ : Read j c′ t′ = rw gathered-is at r in
-        let z : j .held ≡ [] = judged-none e banks known (stateWith (s .tally) [] t) (g ++ y) in
-        rw (completes y h)
-        (record {
-          next = b ∙ λ i. record {
-            day = s .day;
-            room = s .room;
-            tally = r′ .tally i;
-            fill = sym (ap length z) i;
-            held = (pad-none ∙ ap pad (sym z)) i;
-          };
-          bytes = r′ .bytes;
-        })
-
-    judged-valid : Valid (judged (rules e banks known) (stateWith (s .tally) [] t) (g ++ y))
-    judged-valid = valid-judged e banks known (stateWith (s .tally) [] t) (ready-valid (s .tally) [] t (f .ready)) (g ++ y)
-
-    pub completed-told : run (rules e banks known) (stateOf s t) y .told ≡ 0
-    completed-told = rw (completes y h) (judged-valid .told)
-
-    pub completed-ready : (n : Session) {c′ : Tally} {t′ : List ℕ} → Read (judged (rules e banks known) (stateWith (s .tally) [] t) (take (s₂ .fill) (s₂ .held))) c′ t′ → n ≡ betweenOf s c′ → Ready (n .tally) t′
-    completed-ready n {c′} {t′} r b =
-        rw b (valid-ready (judged (rules e banks known) (stateWith (s .tally) [] t) (g ++ y)) c′ t′ judged-valid (rw gathered-is at r))
-
--- a record of which something is held has begun in the head or after it
-pub held-early : (s : Session) (t : List ℕ) → Fit s t → 0 < s .fill → s .tally .phase ≤ 1
-held-early s t f h = go (leb (s .tally .phase) 1) refl
-  where
-    go : (b : Bool) → leb (s .tally .phase) 1 ≡ b → s .tally .phase ≤ 1
-    go true q = leb-true (s .tally .phase) 1 q
-    go false q = absurd (omega (arith, f .late (leb-false (s .tally .phase) 1 q)))
-
--- one byte is held after the head, and one more shows the kind
-module _ (e : ℕ) (banks known : List ℕ) (s : Session) (t : List ℕ) (f : Fit s t) (l : length (s .held) ≡ 251) (p : s .tally .phase ≡ 1) (one : s .fill ≡ 1)
-    (y : List ℕ) (n : length y ≡ 1) (s₂ : Session) (q : s₂ ≡ gatheredOf s y) where
-  abbrev h : List ℕ
-  h = take (s .fill) (s .held) ++ y
-
-  two-held : length h ≡ s .fill + length y
-  two-held = length-append (take (s .fill) (s .held)) y ∙ ap (λ (m : ℕ). m + length y) (length-take-le (s .fill) (s .held) (omega arith))
-
-  two-taken : take (s .fill + length y) (pad h) ≡ h
-  two-taken = take-pad h (s .fill + length y) two-held
-
-  pub one-fit : Fit s₂ t
-  one-fit =
-      rw q
-      (record {
-        ready = f .ready;
-        room = f .room;
-        early = λ k. omega (arith, whole-least (s .tally .phase) (take (s .fill + length y) (pad h)));
-        late = λ k. absurd (omega arith);
-      })
-
-  pub one-shows : Shows s₂
-  one-shows = rw q (record { early = omega arith; some = omega arith; kind = λ k. omega arith })
-
-  one-run : run (rules e banks known) (stateOf s t) y ≡ stateOf s₂ t
-  one-run =
-      run-kept (rules e banks known) (stateOf s t) (take (s .fill) (s .held)) y (omega arith) refl (subst (λ (m : ℕ). length h < m) (sym (size-whole e banks known (s .tally .phase) h)) (omega (arith, two-held, whole-least (s .tally .phase) h)))
-      ∙ sym (ap (λ (a : Session). stateOf a t) q ∙ ap (λ (x : List ℕ). stateWith (s .tally) x t) two-taken)
-
-  pub one-begun : (piece : List ℕ) {b : Begun} {t′ : List ℕ} → s .day ≡ e → y ≡ take 1 piece → BegunOf (rules (s₂ .day) banks known) s₂ 1 piece t b t′ → BegunOf (rules e banks known) s 0 piece t b t′
-  one-begun piece {b} {t′} k z r₀ =
-      let r : BegunOf (rules e banks known) s₂ 1 piece t b t′ = subst (λ (a : ℕ). BegunOf (rules a banks known) s₂ 1 piece t b t′) (ap (λ (a : Session). a .day) q ∙ k) r₀ in
-      let m : b .at - 0 ≡ 1 + (b .at - 1) = omega (arith, r .past) in
-      let runs : run (rules e banks known) (stateOf s t) (take (b .at - 0) (drop 0 piece)) ≡ run (rules e banks known) (stateOf s₂ t) (take (b .at - 1) (drop 1 piece)) =
-      ap (λ (i : ℕ). run (rules e banks known) (stateOf s t) (take i piece)) m
-      ∙ ap (run (rules e banks known) (stateOf s t)) (take-add 1 (b .at - 1) piece)
-      ∙ run-append (rules e banks known) (stateOf s t) (take 1 piece) (take (b .at - 1) (drop 1 piece))
-      ∙ ap (λ (a : List ℕ). run (rules e banks known) (run (rules e banks known) (stateOf s t) a) (take (b .at - 1) (drop 1 piece))) (sym z)
-      ∙ ap (λ (a : State). run (rules e banks known) a (take (b .at - 1) (drop 1 piece))) one-run in
-      let d : s₂ .day ≡ s .day = ap (λ (a : Session). a .day) q in
-      let o : s₂ .room ≡ s .room = ap (λ (a : Session). a .room) q in
-      record {
-        past = omega arith;
-        within = r .within;
-        became = record { next = rw (runs, ← d, ← o) (r .became .next); bytes = rw runs (r .became .bytes) };
-        over = r .over;
-        told = rw runs (r .told);
-        ready = r .ready;
-      }
-
 -- a turn of the walk over a piece
 module _ (e : ℕ) (banks known : List ℕ) (s₀ : State) (piece : List ℕ) (from i : ℕ) (c : Tally) (t : List ℕ) (h : from ≤ i) (k : i ≤ length piece)
     (w : Walk e banks known s₀ (drop from piece) (i - from) c t) where
@@ -308,138 +136,274 @@ module _ (e : ℕ) (banks known : List ℕ) (s₀ : State) (piece : List ℕ) (f
           let r′ : Read (judged (rules e banks known) (stateWith c [] t) (take n (drop (i - from) (drop from piece)))) c′ t′ = rw (part-is n) at r in
           rw z at (walk-on e banks known s₀ (drop from piece) (i - from) c t w n p shown room c′ t′ r′)
 
--- a tally and what is left of the piece, as a session
-module _ (e : ℕ) (banks known : List ℕ) (s : Session) (s₁ : State) (c : Tally) (t : List ℕ) (r : Read s₁ c t) (z : s₁ .told ≡ 0) (n : s₁ .held ≡ []) (v : Ready c t) where
-  is-state : stateWith c [] t ≡ s₁
-  is-state = read-state s₁ c t r z n
+-- what is left of a piece, after its whole records
+module _ (c : Tally) (h : List ℕ) where
+  -- it is held
+  pub left-held : (y : List ℕ) → c .phase ≤ 1 → length y < whole (c .phase) y → h ≡ pad y → EndedAs c y (record { tally = c; fill = length y }) h
+  left-held y p l q =
+      record {
+        became = λ e banks known t.
+            rw (run-kept (rules e banks known) (stateWith c [] t) [] y p refl (size-more e banks known (c .phase) y l))
+            (record { tally = refl; fill = refl; held = q; bytes = refl });
+      }
 
-  abbrev c₀ : State
-  c₀ = stateWith c [] t
+  -- nothing is held
+  module _ (q : h ≡ pad []) where
+    still : (y : List ℕ) → ((e : ℕ) (banks known t : List ℕ) → run (rules e banks known) (stateWith c [] t) y ≡ stateWith c [] t)
+        → EndedAs c y (record { tally = c; fill = 0 }) h
+    still y r = record { became = λ e banks known t. rw (r e banks known t) (record { tally = refl; fill = refl; held = q; bytes = refl }) }
 
-  stays : Became (s .day) (s .room) c₀ (betweenOf s c) t
-  stays = record { next = λ i. record { day = s .day; room = s .room; tally = c; fill = 0; held = pad-none i }; bytes = refl }
+    -- after the foot
+    pub left-none : (y : List ℕ) → length y ≤ 0 → EndedAs c y (record { tally = c; fill = 0 }) h
+    unfolding run
+    left-none [] l = still [] (λ e banks known t. refl)
+    left-none (b ∷ y) l = absurd (omega arith)
 
-  at-phase : (p : ℕ) → c .phase ≡ p → at p [] c₀ ≡ c₀
-  at-phase p q = ap (λ (m : ℕ). at m [] c₀) (sym q)
+    pub left-break : (y : List ℕ) → c .phase ≡ 2 → 0 < length y → (d : Tally) → d ≡ tallyOf (at 3 [] (stateWith c [] []))
+        → EndedAs c y (record { tally = d; fill = 0 }) h
+    left-break [] p l d k = absurd (omega arith)
+    left-break (b ∷ y) p l d k =
+        record {
+          became = λ e banks known t.
+              rw (run-after (rules e banks known) (stateWith c [] t) b y p) (record { tally = k; fill = refl; held = q; bytes = refl });
+        }
 
-  gathers : (y : List ℕ) → c .phase ≤ 1 → length y < whole (c .phase) y → Became (s .day) (s .room) (run (rules e banks known) c₀ y) (gatheredOf (betweenOf s c) y) t
-  gathers y p l =
-      rw (run-kept (rules e banks known) c₀ [] y p refl (subst (λ (m : ℕ). length y < m) (sym (size-whole e banks known (c .phase) y)) l))
-      (record { next = rw zero-add; bytes = refl })
+    -- after a break and after an overflow
+    at-phase : (t : List ℕ) (p : ℕ) → c .phase ≡ p → at p [] (stateWith c [] t) ≡ stateWith c [] t
+    at-phase t p k = ap (λ (m : ℕ). at m [] (stateWith c [] t)) (sym k)
 
-  breaks : (b : ℕ) (y : List ℕ) → c .phase ≡ 2 → Became (s .day) (s .room) (run (rules e banks known) c₀ (b ∷ y)) (betweenOf s (tallyOf (at 3 [] (stateWith c [] [])))) t
-  breaks b y q =
-      rw (run-after (rules e banks known) c₀ b y q)
-      (record { next = λ i. record { day = s .day; room = s .room; tally = tallyOf (at 3 [] c₀); fill = 0; held = pad-none i }; bytes = refl })
+    pub left-over : (y : List ℕ) → 1 < c .phase → (c .phase ≡ 2 → ⊥) → c .phase ≤ 4 → EndedAs c y (record { tally = c; fill = 0 }) h
+    left-over y p k m = go (eqb (c .phase) 3) refl
+      where
+        stays : (e : ℕ) (banks known t : List ℕ) (n : ℕ) → c .phase ≡ n
+            → run (rules e banks known) (at n [] (stateWith c [] t)) y ≡ at n [] (stateWith c [] t)
+            → run (rules e banks known) (stateWith c [] t) y ≡ stateWith c [] t
+        stays e banks known t n w r = rw (at-phase t n w) at r
 
-  over-stays : (y : List ℕ) → c .phase ≡ 3 → run (rules e banks known) c₀ y ≡ c₀
-  over-stays y q = ap (λ (a : State). run (rules e banks known) a y) (sym (at-phase 3 q)) ∙ run-broken (rules e banks known) c₀ y ∙ at-phase 3 q
-
-  full-stays : (y : List ℕ) → c .phase ≡ 4 → run (rules e banks known) c₀ y ≡ c₀
-  full-stays y q = ap (λ (a : State). run (rules e banks known) a y) (sym (at-phase 4 q)) ∙ run-overflown (rules e banks known) c₀ y ∙ at-phase 4 q
-
-  abbrev Ends : List ℕ → Session → Type 0
-  Ends y m = Became (s .day) (s .room) (run (rules e banks known) c₀ y) m t
-
-  still : (y : List ℕ) → run (rules e banks known) c₀ y ≡ c₀ → Ends y (betweenOf s c)
-  still y q = rw q stays
-
-  after-foot : (y : List ℕ) → c .phase ≡ 2 → Ends y (cond (ltb 0 (length y)) (betweenOf s (tallyOf (at 3 [] (stateWith c [] [])))) (betweenOf s c))
-  unfolding run
-  after-foot [] q = stays
-  after-foot (b ∷ y) q = rw (lt-ltb 0 (suc (length y)) (omega arith)) (breaks b y q)
-
-  past-foot : (y : List ℕ) → 1 < c .phase → (c .phase ≡ 2 → ⊥) → Ends y (betweenOf s c)
-  past-foot y h k = go (eqb (c .phase) 3) refl
-    where
-      go : (b : Bool) → eqb (c .phase) 3 ≡ b → Ends y (betweenOf s c)
-      go true q = still y (over-stays y (eqb-true (c .phase) 3 q))
-      go false q = still y (full-stays y (omega (arith, eqb-false (c .phase) 3 q, v .phase)))
-
-  -- what is left is held, or a break after the foot, or not judged
-  left-ends : (y : List ℕ) → (c .phase ≤ 1 → length y < whole (c .phase) y) → Ends y (endedOf s c y)
-  unfolding endedOf
-  left-ends y l = go (leb (c .phase) 1) refl (eqb (c .phase) 2) refl
-    where
-      go : (a : Bool) → leb (c .phase) 1 ≡ a → (b : Bool) → eqb (c .phase) 2 ≡ b
-          → Ends y (cond a (gatheredOf (betweenOf s c) y) (cond (b && ltb 0 (length y)) (betweenOf s (tallyOf (at 3 [] (stateWith c [] [])))) (betweenOf s c)))
-      go true p b q = let h = leb-true (c .phase) 1 p in gathers y h (l h)
-      go false p true q = after-foot y (eqb-true (c .phase) 2 q)
-      go false p false q = past-foot y (leb-false (c .phase) 1 p) (eqb-false (c .phase) 2 q)
-
-  pub run-ends : (y : List ℕ) → (c .phase ≤ 1 → length y < whole (c .phase) y) → Became (s .day) (s .room) (run (rules e banks known) s₁ y) (endedOf s c y) t
-  run-ends y l = rw (← is-state) (left-ends y l)
+        go : (b : Bool) → eqb (c .phase) 3 ≡ b → EndedAs c y (record { tally = c; fill = 0 }) h
+        go true w = still y (λ e banks known t. stays e banks known t 3 (eqb-true (c .phase) 3 w) (run-broken (rules e banks known) (stateWith c [] t) y))
+        go false w =
+            let i : c .phase ≡ 4 = omega (arith, eqb-false (c .phase) 3 w) in
+            still y (λ e banks known t. stays e banks known t 4 i (run-overflown (rules e banks known) (stateWith c [] t) y))
 
 -- from a place of the piece on
-module _ (e : ℕ) (banks known : List ℕ) (s : Session) (c : Tally) (t piece : List ℕ) (from : ℕ) (w : Walked) (t′ : List ℕ) (k : WalkedOf (rules e banks known) c (drop from piece) from t w t′) where
+module _ (e : ℕ) (banks known : List ℕ) (c : Tally) (t piece : List ℕ) (from : ℕ) (w : Walked) (t′ : List ℕ)
+    (k : WalkedOf (rules e banks known) c (drop from piece) from t w t′) where
   here : drop (w .at - from) (drop from piece) ≡ take (length piece - w .at) (drop (w .at) piece)
   here =
       let q : from + (w .at - from) ≡ w .at = omega (arith, k .past) in
       drop-drop (w .at - from) from piece ∙ ap (λ (n : ℕ). drop n piece) q ∙ sym (tail piece (w .at))
 
-  pub onward-short : w .tally .phase ≤ 1 → length (take (length piece - w .at) (drop (w .at) piece)) ≤ 250
-  onward-short p = omega (arith, ap length here, k .rest p, whole-most (w .tally .phase) (drop (w .at - from) (drop from piece)))
+  pub onward-partial : Partial (w .tally) (take (length piece - w .at) (drop (w .at) piece))
+  onward-partial = record { phase = k .ready .phase; early = λ p. rw here at (k .rest p) }
 
-  pub onward-is : (m : Session) → m ≡ endedOf s (w .tally) (take (length piece - w .at) (drop (w .at) piece)) → Became (s .day) (s .room) (run (rules e banks known) (stateWith c [] t) (drop from piece)) m t′
-  onward-is m q =
+  pub onward-became : {l : Left} {h : List ℕ} → EndedAs (w .tally) (take (length piece - w .at) (drop (w .at) piece)) l h
+      → Became (run (rules e banks known) (stateWith c [] t) (drop from piece)) l h t′
+  onward-became {l} {h} r =
       let R = rules e banks known in
       let x = drop from piece in
       let n = w .at - from in
       let s₁ = run R (stateWith c [] t) (take n x) in
-      let split : run R (stateWith c [] t) x ≡ run R s₁ (drop n x) = sym (ap (run R (stateWith c [] t)) (take-append-drop n x)) ∙ run-append R (stateWith c [] t) (take n x) (drop n x) in
-      let b = run-ends e banks known s s₁ (w .tally) t′ (k .reads) (k .told) (k .none) (k .ready) (drop n x) (k .rest) in
-      record {
-        next = q ∙ ap (endedOf s (w .tally)) (sym here) ∙ b .next ∙ ap (sessionOf (s .day) (s .room)) (sym split);
-        bytes = b .bytes ∙ ap (λ (a : State). a .table) (sym split);
-      }
+      let y = take (length piece - w .at) (drop (w .at) piece) in
+      let split : run R (stateWith c [] t) x ≡ run R (stateWith (w .tally) [] t′) y =
+      sym (ap (run R (stateWith c [] t)) (take-append-drop n x))
+      ∙ run-append R (stateWith c [] t) (take n x) (drop n x)
+      ∙ ap (run R s₁) here
+      ∙ ap (λ (a : State). run R a y) (sym (read-state s₁ (w .tally) t′ (k .reads) (k .told) (k .none))) in
+      rw split (r .became e banks known t′)
 
--- a whole piece, after the record begun
-module _ (e : ℕ) (banks known : List ℕ) (s : Session) (t piece : List ℕ) (b : Begun) (t₁ : List ℕ) (k : BegunOf (rules e banks known) s 0 piece t b t₁) where
-  abbrev S : State
-  S = run (rules e banks known) (stateOf s t) (take (b .at - 0) (drop 0 piece))
-
-  -- nothing is left of the piece
-  pub begun-over : (b .next .fill ≡ 0 → ⊥) → Became (s .day) (s .room) (run (rules e banks known) (stateOf s t) piece) (b .next) t₁
-  begun-over f =
-      let n : b .at ≡ length piece = k .over f in
-      let q : take (b .at - 0) (drop 0 piece) ≡ piece = take-all (b .at - 0) piece (omega arith) in
-      rw q at (k .became)
-
-  pub begun-on : {m : Session} {t′ : List ℕ} → b .next .fill ≡ 0 → Became (s .day) (s .room) (run (rules e banks known) (stateWith (b .next .tally) [] t₁) (drop (b .at) piece)) m t′
-      → Became (s .day) (s .room) (run (rules e banks known) (stateOf s t) piece) m t′
-  begun-on {m} {t′} z r =
-      let R = rules e banks known in
-      let h : S .held ≡ [] = none (S .held) (sym (ap (λ (a : Session). a .fill) (k .became .next)) ∙ z) in
-      let y : stateWith (b .next .tally) [] t₁ ≡ S = read-state S (b .next .tally) t₁ (record { tally = ap (λ (a : Session). a .tally) (k .became .next); bytes = k .became .bytes }) (k .told) h in
-      let u : b .at - 0 ≡ b .at = omega arith in
-      let split : run R (stateOf s t) piece ≡ run R (stateWith (b .next .tally) [] t₁) (drop (b .at) piece) =
-      sym (ap (run R (stateOf s t)) (take-append-drop (b .at) piece))
-      ∙ run-append R (stateOf s t) (take (b .at) piece) (drop (b .at) piece)
-      ∙ ap (λ (n : ℕ). run R (run R (stateOf s t) (take n piece)) (drop (b .at) piece)) (sym u)
-      ∙ ap (λ (a : State). run R a (drop (b .at) piece)) (sym y) in
-      record { next = r .next ∙ ap (sessionOf (s .day) (s .room)) (sym split); bytes = r .bytes ∙ ap (λ (a : State). a .table) (sym split) }
-    where
-      none : (l : List ℕ) → length l ≡ 0 → l ≡ []
-      none [] q = refl
-      none (x ∷ l) q = absurd (omega arith)
-
--- an empty piece
-pub none-fed : (e : ℕ) (banks known : List ℕ) (s : Session) (t piece : List ℕ) → s .fill ≤ 251 → length (s .held) ≡ 251 → length piece ≡ 0 → Became (s .day) (s .room) (run (rules e banks known) (stateOf s t) piece) (gatheredOf s piece) t
-unfolding run
-none-fed e banks known s t [] h l q = record { next = rw (append-nil, add-zero, length-take-le (s .fill) (s .held) (omega arith)); bytes = refl }
-none-fed e banks known s t (b ∷ piece) h l q = absurd (omega arith)
-
--- what is held fits the array
-pub fill-most : (s : Session) (t : List ℕ) → Fit s t → s .fill ≤ 251
-fill-most s t f = go (leb (s .tally .phase) 1) refl
-  where
-    go : (b : Bool) → leb (s .tally .phase) 1 ≡ b → s .fill ≤ 251
-    go true q = omega (arith, f .early (leb-true (s .tally .phase) 1 q), whole-most (s .tally .phase) (take (s .fill) (s .held)))
-    go false q = omega (arith, f .late (leb-false (s .tally .phase) 1 q))
+-- a record of which something is held is judged with its last byte
+run-all : (R : Rules) (s : State) (h y : List ℕ) → s .phase ≤ 1 → s .held ≡ h → 0 < length y → length (h ++ y) ≡ size R (s .phase) (h ++ y)
+    → run R s y ≡ judged R s (h ++ y)
+run-all R s h [] p e m l = absurd (omega arith)
+run-all R s h (b ∷ y) p e m l = run-whole R s h b y p e l
 
 -- with nothing held
-pub empty-fed : (e : ℕ) (banks known : List ℕ) (s : Session) (t piece : List ℕ) {m : Session} {t′ : List ℕ} → s .fill ≡ 0 → Became (s .day) (s .room) (run (rules e banks known) (stateWith (s .tally) [] t) piece) m t′
-    → Became (s .day) (s .room) (run (rules e banks known) (stateOf s t) piece) m t′
-empty-fed e banks known s t piece {m} {t′} z r =
-    let q : stateOf s t ≡ stateWith (s .tally) [] t = ap (λ (n : ℕ). stateWith (s .tally) (take n (s .held)) t) z in
-    subst (λ (a : State). Became (s .day) (s .room) (run (rules e banks known) a piece) m t′) (sym q) r
+pub empty-fed : (e : ℕ) (banks known : List ℕ) (c : Tally) (n : ℕ) (h t y : List ℕ) {l : Left} {h′ t′ : List ℕ} → n ≡ 0
+    → Became (run (rules e banks known) (stateWith c [] t) (drop 0 y)) l h′ t′ → Became (run (rules e banks known) (stateWith c (take n h) t) y) l h′ t′
+empty-fed e banks known c n h t y z r = rw z r
+
+-- a record is begun, in 251 bytes
+pub record Begun (c : Tally) (n : ℕ) (h t : List ℕ) : Type 0 where
+  pub fit : Fit c n h t
+  pub long : length h ≡ 251
+  pub some : 0 < n
+
+-- with the byte b after what is held its kind shows, and so its length w
+pub record Shown (c : Tally) (n : ℕ) (h t : List ℕ) (b w : ℕ) : Type 0 where
+  pub begun : Begun c n h t
+  pub size : w ≡ whole (c .phase) (set h n b)
+
+-- k bytes y that begin with b are put after what is held: ys is what the part lent for them holds then
+pub record Put (c : Tally) (n : ℕ) (h t : List ℕ) (b w : ℕ) (y : List ℕ) (k : ℕ) (ys : List ℕ) : Type 0 where
+  pub shown : Shown c n h t b w
+  pub count : length y ≡ k
+  pub more : 0 < k
+  pub first : getD y 0 0 ≡ b
+  pub within : n + k ≤ w
+  pub bytes : ys ≡ withBytes (take (length (set h n b) - n) (drop n (set h n b))) y
+
+module _ {c : Tally} {n : ℕ} {h t : List ℕ} (d : Begun c n h t) where
+  begun-early : c .phase ≤ 1
+  begun-early = go (leb (c .phase) 1) refl
+    where
+      go : (b : Bool) → leb (c .phase) 1 ≡ b → c .phase ≤ 1
+      go true q = leb-true (c .phase) 1 q
+      go false q = absurd (omega (arith, d .some, d .fit .late (leb-false (c .phase) 1 q)))
+
+  begun-short : n < whole (c .phase) (take n h)
+  begun-short = d .fit .early begun-early
+
+  pub begun-room : n < 251
+  begun-room = omega (arith, begun-short, whole-most (c .phase) (take n h))
+
+  begun-length : length (take n h) ≡ n
+  begun-length = length-take-le n h (omega (arith, d .long, begun-room))
+
+  -- an empty piece
+  pub none-fed : (e : ℕ) (banks known y h′ : List ℕ) → length y ≡ 0 → h′ ≡ pad (take n h)
+      → Became (run (rules e banks known) (stateWith c (take n h) t) y) (record { tally = c; fill = n }) h′ t
+  unfolding run
+  none-fed e banks known [] h′ z q = record { tally = refl; fill = sym begun-length; held = q; bytes = refl }
+  none-fed e banks known (b ∷ y) h′ z q = absurd (omega arith)
+
+module _ {c : Tally} {n : ℕ} {h t : List ℕ} {b w : ℕ} (d : Shown c n h t b w) where
+  pub set-long : length (set h n b) ≡ 251
+  set-long = length-set h n b ∙ d .begun .long
+
+  joined-one : length (take n h ++ (b ∷ [])) ≡ n + 1
+  joined-one = length-append (take n h) (b ∷ []) ∙ ap (λ (m : ℕ). m + 1) (begun-length (d .begun))
+
+  one-more : whole (c .phase) (take n h ++ (b ∷ [])) ≡ w
+  one-more =
+      let m = begun-room (d .begun) in
+      sym (ap (λ (j : ℕ). whole (c .phase) (take j (set h n b))) (add-one n) ∙ ap (whole (c .phase)) (take-suc-set h n b (omega (arith, d .begun .long))))
+      ∙ whole-front (c .phase) (n + 1) (set h n b) (omega (arith, d .begun .some)) (omega (arith, set-long))
+      ∙ sym (d .size)
+
+  -- a byte is lacking
+  pub lacks : n < w
+  lacks = go (leb 2 n) refl
+    where
+      go : (a : Bool) → leb 2 n ≡ a → n < w
+      go true q =
+          let m : 2 ≤ length (take n h) = omega (arith, leb-true 2 n q, begun-length (d .begun)) in
+          omega (arith, begun-short (d .begun), one-more, size-seen (rules 0 [] []) (c .phase) (take n h) (b ∷ []) m)
+      go false q = omega (arith, leb-false 2 n q, d .size, whole-least (c .phase) (set h n b))
+
+module _ {c : Tally} {n : ℕ} {h t : List ℕ} {b w : ℕ} {y : List ℕ} {k : ℕ} {ys : List ℕ} (d : Put c n h t b w y k ys) where
+  abbrev g : List ℕ
+  g = take n h
+
+  abbrev h₂ : List ℕ
+  h₂ = putMid n (length (set h n b) - n) (set h n b) ys
+
+  joined-length : length (g ++ y) ≡ n + k
+  joined-length = length-append g y ∙ ap₂ (λ (i j : ℕ). i + j) (begun-length (d .shown .begun)) (d .count)
+
+  joined-whole : whole (c .phase) (g ++ y) ≡ w
+  joined-whole =
+      let z : y ≡ b ∷ drop 1 y = drop-cons y 0 0 (omega (arith, d .count, d .more)) ∙ ap (λ (x : ℕ). x ∷ drop 1 y) (d .first) in
+      let m : 2 ≤ length (g ++ (b ∷ [])) = omega (arith, joined-one (d .shown), d .shown .begun .some) in
+      ap (λ (x : List ℕ). whole (c .phase) (g ++ x)) z
+      ∙ sym (ap (whole (c .phase)) (append-snoc g b (drop 1 y)))
+      ∙ size-seen (rules 0 [] []) (c .phase) (g ++ (b ∷ [])) (drop 1 y) m
+      ∙ one-more (d .shown)
+
+  pub put-most : n + k ≤ 251
+  put-most = omega (arith, d .within, d .shown .size, whole-most (c .phase) (set h n b))
+
+  put-room : n + length y ≤ length (set h n b)
+  put-room = omega (arith, put-most, d .count, set-long (d .shown))
+
+  put-is : h₂ ≡ over (set h n b) n y
+  put-is = put-at (set h n b) n y ys put-room (d .bytes)
+
+  pub put-long : length h₂ ≡ 251
+  put-long = ap length put-is ∙ length-over (set h n b) n y put-room ∙ set-long (d .shown)
+
+  put-front : take (n + k) h₂ ≡ g ++ y
+  put-front =
+      ap₂ (λ (j : ℕ) (x : List ℕ). take (n + j) x) (sym (d .count)) put-is
+      ∙ over-front (set h n b) n y (omega (arith, put-room))
+      ∙ ap (λ (x : List ℕ). x ++ y) (take-set-le n h n b (omega arith))
+
+  pub put-count : n + k ≡ length (take (n + k) h₂)
+  put-count = sym (ap length put-front ∙ joined-length)
+
+  module _ (e : ℕ) (banks known : List ℕ) where
+    -- not whole yet
+    pub kept-became : n + k < w → (h′ : List ℕ) → h′ ≡ pad (take (n + k) h₂)
+        → Became (run (rules e banks known) (stateWith c g t) y) (record { tally = c; fill = n + k }) h′ t
+    kept-became m h′ q =
+        let r : length (g ++ y) < whole (c .phase) (g ++ y) = omega (arith, joined-length, joined-whole) in
+        rw (run-kept (rules e banks known) (stateWith c g t) g y (begun-early (d .shown .begun)) refl (size-more e banks known (c .phase) (g ++ y) r))
+        (record { tally = refl; fill = sym joined-length; held = q ∙ ap pad put-front; bytes = refl })
+
+    -- whole
+    module _ (m : n + k ≡ w) where
+      abbrev j : State
+      j = judged (rules e banks known) (stateWith c [] t) (take (n + k) h₂)
+
+      pub put-whole : length (take (n + k) h₂) ≡ whole (c .phase) (take (n + k) h₂)
+      put-whole = sym put-count ∙ m ∙ sym (ap (whole (c .phase)) put-front ∙ joined-whole)
+
+      judged-any : (x : List ℕ) → judged (rules e banks known) (stateWith c g t) x ≡ judged (rules e banks known) (stateWith c [] t) x
+      unfolding judged headRead itemCounted itemRead footRead
+      judged-any x = refl
+
+      completes : run (rules e banks known) (stateWith c g t) y ≡ j
+      completes =
+          let z : length (g ++ y) ≡ size (rules e banks known) (c .phase) (g ++ y) =
+          joined-length ∙ m ∙ sym (size-whole e banks known (c .phase) (g ++ y) ∙ joined-whole) in
+          run-all (rules e banks known) (stateWith c g t) g y (begun-early (d .shown .begun)) refl (omega (arith, d .count, d .more)) z
+          ∙ ap (judged (rules e banks known) (stateWith c g t)) (sym put-front)
+          ∙ judged-any (take (n + k) h₂)
+
+      judged-valid : Valid j
+      judged-valid = valid-judged e banks known (stateWith c [] t) (ready-valid c [] t (d .shown .begun .fit .ready)) (take (n + k) h₂)
+
+      module _ {c′ : Tally} {t′ : List ℕ} (r : Read j c′ t′) where
+        pub put-ready : Ready c′ t′
+        put-ready = valid-ready j c′ t′ judged-valid r
+
+        -- and then what follows it
+        put-became : (x : List ℕ) {l : Left} {h′ t″ : List ℕ} → Became (run (rules e banks known) (stateWith c′ [] t′) x) l h′ t″
+            → Became (run (rules e banks known) (stateWith c g t) (y ++ x)) l h′ t″
+        put-became x v =
+            let R = rules e banks known in
+            let i : stateWith c′ [] t′ ≡ j = read-state j c′ t′ r (judged-valid .told) (judged-none e banks known (stateWith c [] t) (take (n + k) h₂)) in
+            let split : run R (stateWith c g t) (y ++ x) ≡ run R (stateWith c′ [] t′) x =
+            run-append R (stateWith c g t) y x ∙ ap (λ (a : State). run R a x) (completes ∙ sym i) in
+            rw split v
+
+-- the piece doesn't complete it, or it does
+module _ {c : Tally} {n : ℕ} {h t : List ℕ} {b w : ℕ} (d : Shown c n h t b w) where
+  pub all-put : n + (w - n) ≡ w
+  all-put = omega (arith, lacks d)
+
+  module _ (piece : List ℕ) (i : getD piece 0 0 ≡ b) where
+    pub short-put : (length piece ≡ 0 → ⊥) → length piece < w - n → {ys : List ℕ}
+        → ys ≡ withBytes (take (length (set h n b) - n) (drop n (set h n b))) piece → Put c n h t b w piece (length piece) ys
+    short-put z m q = record { shown = d; count = refl; more = omega (arith, z); first = i; within = omega (arith, lacks d); bytes = q }
+
+    pub long-put : w - n ≤ length piece → {ys : List ℕ} → ys ≡ withBytes (take (length (set h n b) - n) (drop n (set h n b))) (take (w - n) piece)
+        → Put c n h t b w (take (w - n) piece) (w - n) ys
+    long-put m q =
+        let some : 0 < w - n = omega (arith, lacks d) in
+        record {
+          shown = d;
+          count = length-take-le (w - n) piece m;
+          more = some;
+          first = getD-take (w - n) piece 0 0 some ∙ i;
+          within = omega (arith, all-put);
+          bytes = q;
+        }
+
+    pub long-became : (m : w - n ≤ length piece) {ys : List ℕ} (q : ys ≡ withBytes (take (length (set h n b) - n) (drop n (set h n b))) (take (w - n) piece))
+        (e : ℕ) (banks known : List ℕ) {c′ : Tally} {t′ : List ℕ}
+        → Read (judged (rules e banks known) (stateWith c [] t) (take (n + (w - n)) (putMid n (length (set h n b) - n) (set h n b) ys))) c′ t′
+        → {l : Left} {h′ t″ : List ℕ} → Became (run (rules e banks known) (stateWith c′ [] t′) (drop (w - n) piece)) l h′ t″
+        → Became (run (rules e banks known) (stateWith c (take n h) t) piece) l h′ t″
+    long-became m q e banks known r v =
+        rw (take-append-drop (w - n) piece) at (put-became (long-put m q) e banks known all-put r (drop (w - n) piece) v)

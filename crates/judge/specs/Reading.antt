@@ -1,20 +1,26 @@
 -- What the inner functions of a session ask and give.
 -- Assumes nothing.
 use Prim.Native.Nat.{ℕ, _+_, _-_, _*_, _≤_, _<_}
-use mathlib.Core.Bool.{cond, _&&_}
+use mathlib.Core.Bool.{cond}
 use mathlib.Core.Path.{_≡_}
-use mathlib.Core.List.{List, [], _++_}
-use lib.ListN.{length, take, drop, replicate}
-use lib.Dec.{leb, ltb, eqb}
+use mathlib.Core.List.{List, []}
+use lib.ListN.{length, take, drop}
+use lib.Dec.{eqb}
+use Rattle.lists.specs.Banks.{isBankList}
+use Rattle.lists.specs.Known.{isKnownList}
 use Rattle.frame.specs.declared.Found.{Found}
 use Rattle.frame.specs.Verdict.{Rules}
-use Rattle.frame.specs.Machine.{State, at, run}
+use Rattle.frame.specs.Machine.{State, run}
+use Rattle.rules.specs.Codes.{rules}
+use Rattle.rules.specs.declared.refusal.Refusal.the-variants as refusal
 use Rattle.judge.specs.declared.Totals.{Totals}
 use Rattle.judge.specs.declared.Tally.{Tally}
 use Rattle.judge.specs.declared.Session.{Session}
-use Rattle.judge.specs.declared.Begun.{Begun}
+use Rattle.judge.specs.declared.Outcome.{Outcome}
+use Rattle.judge.specs.declared.Outcome.the-variants.{Done, Refused}
+use Rattle.judge.specs.declared.Left.{Left}
 use Rattle.judge.specs.declared.Walked.{Walked}
-use Rattle.judge.specs.Session.{pad, stateWith, stateOf, tallyOf, sessionOf, whole}
+use Rattle.judge.specs.Session.{pad, stateWith, tallyOf, whole, inRange}
 
 abbrev pub addedTo : Totals → ℕ → Totals
 addedTo t a = record { count = t .count + 1; sum = t .sum + a }
@@ -43,54 +49,27 @@ pub record Read (s : State) (c : Tally) (t : List ℕ) : Type 0 where
   pub tally : c ≡ tallyOf s
   pub bytes : t ≡ s .table
 
--- a session that is ready: its tally is, and what it holds isn't a whole record
-pub record Fit (s : Session) (t : List ℕ) : Type 0 where
-  pub ready : Ready (s .tally) t
-  pub room : length t ≡ s .room
-  pub early : s .tally .phase ≤ 1 → s .fill < whole (s .tally .phase) (take (s .fill) (s .held))
-  pub late : 1 < s .tally .phase → s .fill ≡ 0
+-- a session in parts that is ready: its tally is, and what it holds isn't a whole record
+pub record Fit (c : Tally) (fill : ℕ) (h t : List ℕ) : Type 0 where
+  pub ready : Ready c t
+  pub early : c .phase ≤ 1 → fill < whole (c .phase) (take fill h)
+  pub late : 1 < c .phase → fill ≡ 0
 
--- a session with x after what it holds
-abbrev pub gatheredOf : Session → List ℕ → Session
-gatheredOf s x =
-    record {
-      day = s .day;
-      room = s .room;
-      tally = s .tally;
-      fill = s .fill + length x;
-      held = pad (take (s .fill) (s .held) ++ x);
-    }
-
--- a state as a session and a table
-pub record Became (day room : ℕ) (s : State) (n : Session) (t : List ℕ) : Type 0 where
-  pub next : n ≡ sessionOf day room s
+-- a state as what a piece leaves, the bytes held with zeros after them, and a table
+pub record Became (s : State) (l : Left) (h t : List ℕ) : Type 0 where
+  pub tally : l .tally ≡ tallyOf s
+  pub fill : l .fill ≡ length (s .held)
+  pub held : h ≡ pad (s .held)
   pub bytes : t ≡ s .table
 
--- with a tally, and nothing held
-abbrev pub betweenOf : Session → Tally → Session
-betweenOf s c = record { day = s .day; room = s .room; tally = c; fill = 0; held = replicate 251 0 }
+-- x begins no whole record, where one may begin
+pub record Partial (c : Tally) (x : List ℕ) : Type 0 where
+  pub phase : c .phase ≤ 4
+  pub early : c .phase ≤ 1 → length x < whole (c .phase) x
 
--- what is left after whole records: held, or a break after the foot
-unfoldable pub endedOf : Session → Tally → List ℕ → Session
-endedOf s c x =
-    cond (leb (c .phase) 1)
-    (gatheredOf (betweenOf s c) x)
-    (cond (eqb (c .phase) 2 && ltb 0 (length x)) (betweenOf s (tallyOf (at 3 [] (stateWith c [] [])))) (betweenOf s c))
-
--- the kind of the record begun shows
-pub record Shows (s : Session) : Type 0 where
-  pub early : s .tally .phase ≤ 1
-  pub some : 0 < s .fill
-  pub kind : s .tally .phase ≡ 1 → 2 ≤ s .fill
-
--- from a place of the piece on, the record begun is whole and judged, or the piece is over
-pub record BegunOf (R : Rules) (s : Session) (from : ℕ) (p t : List ℕ) (b : Begun) (t′ : List ℕ) : Type 0 where
-  pub past : from ≤ b .at
-  pub within : b .at ≤ length p
-  pub became : Became (s .day) (s .room) (run R (stateOf s t) (take (b .at - from) (drop from p))) (b .next) t′
-  pub over : (b .next .fill ≡ 0 → ⊥) → b .at ≡ length p
-  pub told : run R (stateOf s t) (take (b .at - from) (drop from p)) .told ≡ 0
-  pub ready : Ready (b .next .tally) t′
+-- x is read with nothing held before it; no day, list or table matters to it
+pub record EndedAs (c : Tally) (x : List ℕ) (l : Left) (h : List ℕ) : Type 0 where
+  pub became : (e : ℕ) (banks known t : List ℕ) → Became (run (rules e banks known) (stateWith c [] t) x) l h t
 
 -- from a place on, whole records are judged, and what is left of the piece is none
 pub record WalkedOf (R : Rules) (c : Tally) (p : List ℕ) (from : ℕ) (t : List ℕ) (w : Walked) (t′ : List ℕ) : Type 0 where
@@ -101,3 +80,16 @@ pub record WalkedOf (R : Rules) (c : Tally) (p : List ℕ) (from : ℕ) (t : Lis
   pub told : run R (stateWith c [] t) (take (w .at - from) p) .told ≡ 0
   pub ready : Ready (w .tally) t′
   pub rest : w .tally .phase ≤ 1 → length (drop (w .at - from) p) < whole (w .tally .phase) (drop (w .at - from) p)
+
+-- whether a piece may be taken, beside a table of so many bytes: refusals 5, 2, 3, 4
+unfoldable pub refusalOf : Session → List ℕ → List ℕ → ℕ → Outcome
+refusalOf s banks known n =
+    cond (eqb (length (s .held)) 251)
+    (cond (inRange s)
+    (cond (isBankList banks)
+    (cond (isKnownList known)
+    (cond (eqb n (s .room)) Done (Refused refusal.Table))
+    (Refused refusal.KnownList))
+    (Refused refusal.BankList))
+    (Refused refusal.Session))
+    (Refused refusal.Session)

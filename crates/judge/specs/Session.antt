@@ -23,6 +23,7 @@ use Rattle.judge.specs.declared.Session.{Session}
 use Rattle.judge.specs.declared.Outcome.{Outcome}
 use Rattle.judge.specs.declared.Outcome.the-variants.{Done, Refused}
 use Rattle.judge.specs.declared.Taken.{Taken}
+use Rattle.judge.specs.declared.Step.{Step}
 use Rattle.judge.specs.declared.Closing.{Closing}
 use Rattle.judge.specs.declared.Closed.{Closed}
 use Rattle.judge.specs.declared.Judged.{Judged}
@@ -159,6 +160,22 @@ tableTaken s p banks known t = cond (takes s banks known t) (run (rules (s .day)
 pub record Took (s : Session) (p banks known t : List ℕ) (r : Taken) (t′ : List ℕ) : Type 0 where
   pub result : r ≡ taken s p banks known t
   pub bytes : t′ ≡ tableTaken s p banks known t
+
+-- a session in parts: the bytes held stand in memory of their own
+abbrev pub partsOf : ℕ → ℕ → Tally → ℕ → List ℕ → Session
+partsOf e room c fill h = record { day = e; room = room; tally = c; fill = fill; held = h }
+
+-- taking a piece with 251 bytes lent for those held; any other number is no session's
+unfoldable pub stepped : Session → List ℕ → List ℕ → List ℕ → List ℕ → Taken
+stepped s p banks known t = cond (eqb (length (s .held)) 251) (taken s p banks known t) (give (Refused refusal.Session) s)
+
+unfoldable pub tableStepped : Session → List ℕ → List ℕ → List ℕ → List ℕ → List ℕ
+tableStepped s p banks known t = cond (eqb (length (s .held)) 251) (tableTaken s p banks known t) t
+
+-- outcome, tally, fill, every byte held and every table byte
+pub record Stepped (e room : ℕ) (c : Tally) (fill : ℕ) (h p banks known t : List ℕ) (r : Step) (h′ t′ : List ℕ) : Type 0 where
+  pub result : give (r .outcome) (partsOf e room (r .tally) (r .fill) h′) ≡ stepped (partsOf e room c fill h) p banks known t
+  pub bytes : t′ ≡ tableStepped (partsOf e room c fill h) p banks known t
 
 -- the numbers of a verdict
 abbrev pub closingOf : Verdict → Closing

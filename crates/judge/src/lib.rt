@@ -1,15 +1,15 @@
 // The judge by pieces: a session is a value; each piece of a message yields the session to use next, and closing gives the
 // verdict. A session and the caller's table are all the memory that it needs, whatever the message's size.
 ghost use mathlib.Core.Path.{_≡_};
-ghost use mathlib.Core.Bool.{Bool, cond};
-ghost use mathlib.Core.List.{[], _++_};
-ghost use Prim.Native.Nat.{_+_, _-_, _*_, _≤_, _<_};
+ghost use mathlib.Core.Bool.{cond};
+ghost use mathlib.Core.List.{[]};
+ghost use Prim.Native.Nat.{_+_, _≤_, _<_};
 ghost use lib.ListN.{length, take, drop};
 ghost use Rattle.frame.specs.Machine.{at, earlier, headRead, itemCounted, itemRead, footRead, judged, run, closing};
 ghost use Rattle.frame.specs.Verdict.{blank};
 ghost use Rattle.rules.specs.Codes.{rules};
-ghost use Rattle.judge.specs.Session.{whole, pad, stateWith, stateOf, tallyOf, sessionOf, tallyInRange, heldInRange, inRange, closedSession, opened, Took, closingOf, closedOf, refusedAs, JudgedAs};
-ghost use Rattle.judge.specs.Reading.{addedTo, Ready, Countable, Read, Fit, Shows, gatheredOf, betweenOf, endedOf, Became, BegunOf, WalkedOf};
+ghost use Rattle.judge.specs.Session.{whole, pad, stateWith, tallyOf, tallyInRange, heldInRange, inRange, closedSession, opened, Took, partsOf, Stepped, closingOf, closedOf, refusedAs, JudgedAs};
+ghost use Rattle.judge.specs.Reading.{addedTo, Ready, Countable, Read, Fit, Partial, Became, EndedAs, WalkedOf, refusalOf};
 use rules::refusal::Refusal;
 
 // How many items, and the sum of their amounts.
@@ -47,6 +47,13 @@ pub enum Outcome {
 pub struct Taken {
     pub outcome: Outcome,
     pub next: Session,
+}
+
+// What taking a piece gives where the session is in parts.
+pub struct Step {
+    pub tally: Tally,
+    pub fill: usize,
+    pub outcome: Outcome,
 }
 
 // What closing gives: the message code, accepted count and sum, refused count and sum, the zero watch, the identifier.
@@ -263,45 +270,10 @@ impl Tally {
     }
 }
 
-// A session, and how far into the piece the record begun went.
-pub struct Begun {
-    pub next: Session,
-    pub at: usize,
-}
-
 // A tally, and how far into the piece whole records went.
 pub struct Walked {
     pub tally: Tally,
     pub at: usize,
-}
-
-// The first bytes of what was held, with zeros after them.
-fn tidied(old: [u8; 251], fill: usize) -> [u8; 251]
-    requires { ⌜ fill ≤ 251 ⌝ }
-    ensures { λ r. ⌜ r ≡ pad (take fill old) ⌝ }
-{
-    let mut h = [0u8; 251];
-    let mut i = 0;
-    while i < fill {
-        h[i] = old[i];
-        i += 1;
-    }
-    h
-}
-
-// Bytes put after those that are held.
-fn put_after(held: [u8; 251], fill: usize, x: &[u8]) -> [u8; 251]
-    requires { ⌜ (fill + length (now x) ≤ 251) × (held ≡ pad (take fill held)) ⌝ }
-    ensures { λ r. ⌜ r ≡ pad (take fill held ++ now (x .entry)) ⌝ }
-{
-    let mut h = held;
-    let mut i = 0;
-    while i < x.len() {
-        let at = fill + i;
-        h[at] = x[i];
-        i += 1;
-    }
-    h
 }
 
 // Whole records are judged straight out of the piece, one after the other.
@@ -329,6 +301,209 @@ fn walk(
         i += n;
     }
     Walked { tally: t, at: i }
+}
+
+// What a piece leaves: the tally, and how many bytes are held of a record begun.
+struct Left {
+    tally: Tally,
+    fill: usize,
+}
+
+// Zeros from a place on.
+fn cleared(held: &mut [u8], from: usize)
+    requires { ⌜ (length (now held) ≡ 251) × (from ≤ 251) ⌝ }
+    ensures { λ _. ⌜ now (held .exit) ≡ pad (take from (now (held .entry))) ⌝ }
+{
+    let mut at = from;
+    while at < held.len() {
+        held[at] = 0;
+        at += 1;
+    }
+}
+
+// What is left of a piece after its whole records is held; after the foot it is a break.
+fn ended(tally: Tally, held: &mut [u8], x: &[u8]) -> Left
+    requires { ⌜ length (now held) ≡ 251 ⌝ }
+    requires { ⌜ Partial tally (now x) ⌝ }
+    ensures { λ l. ⌜ EndedAs tally (now (x .entry)) l (now (held .exit)) ⌝ }
+{
+    if tally.phase <= 1 {
+        text::put(held, x);
+        cleared(held, x.len());
+        return Left {
+            tally: tally,
+            fill: x.len(),
+        };
+    }
+    cleared(held, 0);
+    if tally.phase == 2 {
+        if x.len() > 0 {
+            return Left {
+                tally: tally.at(3),
+                fill: 0,
+            };
+        }
+    }
+    Left {
+        tally: tally,
+        fill: 0,
+    }
+}
+
+// From a place of the piece on, with nothing held: whole records straight out of the piece, then what is left.
+fn onward(
+    tally: Tally,
+    held: &mut [u8],
+    piece: &[u8],
+    from: usize,
+    day: u32,
+    banks: &[u32],
+    known: &[u8],
+    table: &mut [u8],
+) -> Left
+    requires { ⌜ Ready tally (now table) ⌝ }
+    requires { ⌜ (length (now held) ≡ 251) × (from ≤ length (now piece)) ⌝ }
+    ensures { λ l. ⌜ Became (run (rules day (now (banks .entry)) (now (known .entry))) (stateWith tally [] (now (table .entry))) (drop from (now (piece .entry)))) l (now (held .exit)) (now (table .exit)) ⌝ }
+{
+    let w = walk(tally, piece, from, day, banks, known, table);
+    let t = w.tally;
+    let at = w.at;
+    ended(t, held, &piece[at..])
+}
+
+// A piece is read: the record begun, if one is, is completed where it stands and judged, and then what follows it.
+fn fed(
+    tally: Tally,
+    fill: usize,
+    held: &mut [u8],
+    piece: &[u8],
+    day: u32,
+    banks: &[u32],
+    known: &[u8],
+    table: &mut [u8],
+) -> Left
+    requires { ⌜ Fit tally fill (now held) (now table) ⌝ }
+    requires { ⌜ length (now held) ≡ 251 ⌝ }
+    ensures { λ l. ⌜ Became (run (rules day (now (banks .entry)) (now (known .entry))) (stateWith tally (take fill (now (held .entry))) (now (table .entry))) (now (piece .entry))) l (now (held .exit)) (now (table .exit)) ⌝ }
+{
+    if fill == 0 {
+        return onward(tally, held, piece, 0, day, banks, known, table);
+    }
+    if piece.len() == 0 {
+        cleared(held, fill);
+        return Left {
+            tally: tally,
+            fill: fill,
+        };
+    }
+    // with a byte more at least two are held, and the kind of the record shows
+    held[fill] = piece[0];
+    let n = size_of(tally.phase, held) - fill;
+    if piece.len() < n {
+        text::put(&mut held[fill..], piece);
+        cleared(held, fill + piece.len());
+        return Left {
+            tally: tally,
+            fill: fill + piece.len(),
+        };
+    }
+    text::put(&mut held[fill..], &piece[..n]);
+    let t = tally.record(&held[..fill + n], day, banks, known, table);
+    onward(t, held, piece, n, day, banks, known, table)
+}
+
+// The record begun isn't whole, and none is begun after the foot, a break or an overflow.
+fn holds(phase: u8, fill: usize, held: &[u8]) -> bool
+    requires { ⌜ length (now held) ≡ 251 ⌝ }
+    ensures { λ r. ⌜ r ≡ heldInRange phase fill (now (held .entry)) ⌝ }
+{
+    if phase > 1 {
+        return fill == 0;
+    }
+    if fill > 250 {
+        return false;
+    }
+    fill < size_of(phase, &held[..fill])
+}
+
+// The session is open, with every number in its range.
+fn in_range(day: u32, room: usize, tally: Tally, fill: usize, held: &[u8]) -> bool
+    requires { ⌜ length (now held) ≡ 251 ⌝ }
+    ensures { λ r. ⌜ r ≡ inRange (partsOf day room tally fill (now (held .entry))) ⌝ }
+{
+    if !calendar::is_date(day) {
+        return false;
+    }
+    if room > Session::MOST {
+        return false;
+    }
+    if !tally.in_range(room) {
+        return false;
+    }
+    holds(tally.phase, fill, held)
+}
+
+// Whether a piece may be taken, beside a table of so many bytes: refusals 5, 2, 3, 4.
+fn refusal_of(
+    day: u32,
+    room: usize,
+    tally: Tally,
+    fill: usize,
+    held: &[u8],
+    banks: &[u32],
+    known: &[u8],
+    len: usize,
+) -> Outcome
+    ensures { λ r. ⌜ r ≡ refusalOf (partsOf day room tally fill (now (held .entry))) (now (banks .entry)) (now (known .entry)) len ⌝ }
+{
+    if held.len() != 251 {
+        return Outcome::Refused(Refusal::Session);
+    }
+    if !in_range(day, room, tally, fill, held) {
+        return Outcome::Refused(Refusal::Session);
+    }
+    if !lists::is_bank_list(banks) {
+        return Outcome::Refused(Refusal::BankList);
+    }
+    if !lists::is_known_list(known) {
+        return Outcome::Refused(Refusal::KnownList);
+    }
+    if len != room {
+        return Outcome::Refused(Refusal::Table);
+    }
+    Outcome::Done
+}
+
+// A piece is taken where the session is in parts, with 251 bytes lent for those held: refusals 5, 2, 3, 4. After a refusal all that is lent is as it was.
+pub fn take_lent(
+    day: u32,
+    room: usize,
+    tally: Tally,
+    fill: usize,
+    held: &mut [u8],
+    piece: &[u8],
+    banks: &[u32],
+    known: &[u8],
+    table: &mut [u8],
+) -> Step
+    ensures { λ r. ⌜ Stepped day room tally fill (now (held .entry)) (now (piece .entry)) (now (banks .entry)) (now (known .entry)) (now (table .entry)) r (now (held .exit)) (now (table .exit)) ⌝ }
+{
+    match refusal_of(day, room, tally, fill, held, banks, known, table.len()) {
+        Outcome::Refused(r) => Step {
+            tally: tally,
+            fill: fill,
+            outcome: Outcome::Refused(r),
+        },
+        Outcome::Done => {
+            let l = fed(tally, fill, held, piece, day, banks, known, table);
+            let t = l.tally;
+            Step {
+                tally: t,
+                fill: l.fill,
+                outcome: Outcome::Done,
+            }
+        }
+    }
 }
 
 impl Session {
@@ -403,213 +578,43 @@ impl Session {
         }
     }
 
-    // The record begun isn't whole, and none is begun after the foot, a break or an overflow.
-    fn holds(self) -> bool
-        ensures { λ r. ⌜ r ≡ heldInRange (self .tally .phase) (self .fill) (self .held) ⌝ }
-    {
-        let fill = self.fill;
-        let t = self.tally;
-        if t.phase > 1 {
-            return fill == 0;
-        }
-        if fill > 250 {
-            return false;
-        }
-        let h = self.held;
-        fill < size_of(t.phase, &h[..fill])
-    }
-
     // The session is open, with every number in its range.
     fn in_range(self) -> bool
         ensures { λ r. ⌜ r ≡ inRange self ⌝ }
     {
-        if !calendar::is_date(self.day) {
-            return false;
-        }
-        if self.room > Session::MOST {
-            return false;
-        }
         let t = self.tally;
-        if !t.in_range(self.room) {
-            return false;
-        }
-        self.holds()
-    }
-
-    // The bytes of x after those that are held.
-    fn gathered(self, x: &[u8]) -> Session
-        requires { ⌜ self .fill + length (now x) ≤ 251 ⌝ }
-        ensures { λ r. ⌜ r ≡ gatheredOf self (now (x .entry)) ⌝ }
-    {
-        let fill = self.fill;
-        let old = self.held;
-        let held = tidied(old, fill);
-        let h = put_after(held, fill, x);
-        let tally = self.tally;
-        Session {
-            day: self.day,
-            room: self.room,
-            tally: tally,
-            fill: fill + x.len(),
-            held: h,
-        }
-    }
-
-    // With a tally, and nothing held.
-    fn between(self, tally: Tally) -> Session
-        ensures { λ r. ⌜ r ≡ betweenOf self tally ⌝ }
-    {
-        Session {
-            day: self.day,
-            room: self.room,
-            tally: tally,
-            fill: 0,
-            held: [0u8; 251],
-        }
-    }
-
-    // The record begun, whose kind shows, is completed from a place of the piece on, and judged where it is whole.
-    fn completed(
-        self,
-        piece: &[u8],
-        from: usize,
-        banks: &[u32],
-        known: &[u8],
-        table: &mut [u8],
-    ) -> Begun
-        requires { ⌜ Fit self (now table) ⌝ }
-        requires { ⌜ Shows self ⌝ }
-        requires { ⌜ from ≤ length (now piece) ⌝ }
-        ensures { λ b. ⌜ BegunOf (rules (self .day) (now (banks .entry)) (now (known .entry))) self from (now (piece .entry)) (now (table .entry)) b (now (table .exit)) ⌝ }
-    {
-        let t = self.tally;
-        let fill = self.fill;
         let h = self.held;
-        let n = size_of(t.phase, &h) - fill;
-        if piece.len() - from < n {
-            return Begun {
-                next: self.gathered(&piece[from..]),
-                at: piece.len(),
-            };
-        }
-        let end = from + n;
-        let s = self.gathered(&piece[from..end]);
-        let held = s.held;
-        let whole = s.fill;
-        let tally = t.record(&held[..whole], self.day, banks, known, table);
-        Begun {
-            next: self.between(tally),
-            at: end,
-        }
-    }
-
-    // The record begun is completed. Where only its first byte is held, one byte more shows its kind.
-    fn begun(self, piece: &[u8], banks: &[u32], known: &[u8], table: &mut [u8]) -> Begun
-        requires { ⌜ Fit self (now table) ⌝ }
-        requires { ⌜ (0 < self .fill) × (0 < length (now piece)) ⌝ }
-        ensures { λ b. ⌜ BegunOf (rules (self .day) (now (banks .entry)) (now (known .entry))) self 0 (now (piece .entry)) (now (table .entry)) b (now (table .exit)) ⌝ }
-    {
-        let t = self.tally;
-        if t.phase == 0 {
-            return self.completed(piece, 0, banks, known, table);
-        }
-        if self.fill > 1 {
-            return self.completed(piece, 0, banks, known, table);
-        }
-        let s = self.gathered(&piece[0..1]);
-        s.completed(piece, 1, banks, known, table)
-    }
-
-    // What is left of a piece after its whole records is held; after the foot it is a break.
-    fn ended(self, tally: Tally, x: &[u8]) -> Session
-        requires { ⌜ (tally .phase ≤ 1 → length (now x) ≤ 250) ⌝ }
-        ensures { λ r. ⌜ r ≡ endedOf self tally (now (x .entry)) ⌝ }
-    {
-        if tally.phase <= 1 {
-            let s = self.between(tally);
-            return s.gathered(x);
-        }
-        if tally.phase == 2 {
-            if x.len() > 0 {
-                return self.between(tally.at(3));
-            }
-        }
-        self.between(tally)
-    }
-
-    // From a place of the piece on, with nothing held: whole records straight out of the piece, then what is left.
-    fn onward(
-        self,
-        tally: Tally,
-        piece: &[u8],
-        from: usize,
-        banks: &[u32],
-        known: &[u8],
-        table: &mut [u8],
-    ) -> Session
-        requires { ⌜ Ready tally (now table) ⌝ }
-        requires { ⌜ from ≤ length (now piece) ⌝ }
-        ensures { λ n. ⌜ Became (self .day) (self .room) (run (rules (self .day) (now (banks .entry)) (now (known .entry))) (stateWith tally [] (now (table .entry))) (drop from (now (piece .entry)))) n (now (table .exit)) ⌝ }
-    {
-        let w = walk(tally, piece, from, self.day, banks, known, table);
-        let t = w.tally;
-        let at = w.at;
-        self.ended(t, &piece[at..])
-    }
-
-    // A piece is read: the record begun, if one is, and then what follows it.
-    fn fed(self, piece: &[u8], banks: &[u32], known: &[u8], table: &mut [u8]) -> Session
-        requires { ⌜ Fit self (now table) ⌝ }
-        ensures { λ n. ⌜ Became (self .day) (self .room) (run (rules (self .day) (now (banks .entry)) (now (known .entry))) (stateOf self (now (table .entry))) (now (piece .entry))) n (now (table .exit)) ⌝ }
-    {
-        if self.fill == 0 {
-            let t = self.tally;
-            return self.onward(t, piece, 0, banks, known, table);
-        }
-        if piece.len() == 0 {
-            return self.gathered(piece);
-        }
-        let b = self.begun(piece, banks, known, table);
-        let s = b.next;
-        let from = b.at;
-        if s.fill > 0 {
-            return s;
-        }
-        let t = s.tally;
-        self.onward(t, piece, from, banks, known, table)
+        in_range(self.day, self.room, t, self.fill, &h)
     }
 
     // A piece is taken: refusals 5, 2, 3, 4.
     pub fn take(self, piece: &[u8], banks: &[u32], known: &[u8], table: &mut [u8]) -> Taken
         ensures { λ r. ⌜ Took self (now (piece .entry)) (now (banks .entry)) (now (known .entry)) (now (table .entry)) r (now (table .exit)) ⌝ }
     {
-        if !self.in_range() {
-            return Taken {
-                outcome: Outcome::Refused(Refusal::Session),
-                next: self,
-            };
-        }
-        if !lists::is_bank_list(banks) {
-            return Taken {
-                outcome: Outcome::Refused(Refusal::BankList),
-                next: self,
-            };
-        }
-        if !lists::is_known_list(known) {
-            return Taken {
-                outcome: Outcome::Refused(Refusal::KnownList),
-                next: self,
-            };
-        }
-        if table.len() != self.room {
-            return Taken {
-                outcome: Outcome::Refused(Refusal::Table),
-                next: self,
-            };
-        }
+        let t = self.tally;
+        let mut h = self.held;
+        let step = take_lent(
+            self.day,
+            self.room,
+            t,
+            self.fill,
+            &mut h,
+            piece,
+            banks,
+            known,
+            table,
+        );
+        let o = step.outcome;
+        let t2 = step.tally;
         Taken {
-            outcome: Outcome::Done,
-            next: self.fed(piece, banks, known, table),
+            outcome: o,
+            next: Session {
+                day: self.day,
+                room: self.room,
+                tally: t2,
+                fill: step.fill,
+                held: h,
+            },
         }
     }
 

@@ -1,10 +1,8 @@
 -- `judge::judge` meets its contract: the refusals of opening and of the one piece, and the verdict.
 -- Assumes nothing.
-use mathlib.Core.Path.{_≡_, refl, sym, ap, _∙_, subst}
-use mathlib.Core.List.{List, [], _∷_}
+use mathlib.Core.Path.{_≡_, sym, ap, _∙_, subst}
+use mathlib.Core.List.{List}
 use Prim.Native.Nat.{ℕ}
-use types.Run.{OneOf, miss}
-use denote.Enum.Declared.{tagOf}
 use Rattle.rules.specs.declared.refusal.Refusal.{Refusal}
 use Rattle.judge.specs.declared.Outcome.{Outcome}
 use Rattle.judge.specs.declared.Outcome.the-variants.{Done, Refused}
@@ -14,15 +12,10 @@ use Rattle.judge.specs.declared.Judged.{Judged}
 use Rattle.judge.specs.Session.{opened, taken, tableTaken, Took, closedOf, refusedAs, tableJudged, JudgedAs}
 use Rattle.judge.specs.Feeding.{judgedFrom, atOnce, tableAtOnce}
 use Rattle.judge.proofs.Great.{same, same-table}
-use Rattle.judge.proofs.Outcome.{the-type}
+use Rattle.judge.proofs.Arms.{done}
 use borrow.Author.Needs.{needs}
 use Rattle.judge.proofs.judge.Statement.{statement}
 use Rattle.judge.proofs.judge.Tie as tie
-
--- the arm of no refusal
-done : (o : Outcome) → OneOf (0 ∷ []) (tagOf the-type o) → o ≡ Done
-done Done h = refl
-done (Refused r) h = absurd (miss (0 ∷ []) 1 tt h)
 
 module _ (e : ℕ) (banks known t m : List ℕ) where
   abbrev s : Taken
