@@ -3,21 +3,24 @@
     python3 reference/cases.py > crates/trial/stdin
 
 Prints the script that trial.py describes, the same each time: chance comes from
-a seed. Values and places are from document 01 and docs/CODES.md. Each case
-changes a base text a little: a good message of 1 to 5 items, a good head or
-item, or a right STATUS.
+a seed. Values and places are from document 01, docs/CODES.md and, for a session's
+bytes, docs/SESSION.md. Each case changes a base text a little: a good message of 1
+to 5 items, a good head or item, or a right STATUS.
 """
 
 import datetime
+import signal
 import sys
 
 sys.dont_write_bytecode = True  # no folder of compiled files beside the sources
 
+import session
 import status
 
 E = 20200310
 BANKS = (1203457, 12345676, 16000009, 16000010, 44102036, 61000009, 99001203)
 KNOWN = (b"A12345676T001202003010002", b"5990000000009202003010007")
+GIVEN = E, list(BANKS), b"".join(KNOWN)
 PARTICULARS = b"0 0000000007 0000083000 1000"
 
 
@@ -126,7 +129,7 @@ HEAD_VALUES = [
     placed(35, BANK_VALUES),
     placed(43, ACCOUNT_VALUES),
     placed(59, dates(E, -10, -9, -8, -1, 0, 1, 2, 3, 366) + NO_DATES),
-    placed(67, [b"BEB", b"VIL", b"NGY", b"CST", b"XXX", b"mun", b"MU ", b"   ", b"000", b"BEC", b"VIM"]),
+    placed(67, [b"BEB", b"VIL", b"NGY", b"CST", b"QQQ", b"mun", b"MU ", b"   ", b"000", b"BEC", b"VIM"]),
     placed(70, [b" " * 35, b"0" * 35, b" " * 34 + b"x", b" " * 34 + b"\xff"]),
     letters(70, 104),
     letters(105, 174),
@@ -309,7 +312,7 @@ def messages_broken():
 RANKED = [
     *((0, value) for value in ((105, b"\x80"), (1, b"02"), (3, b"STATUS"), (9, b"X"), (10, b"A12345677T001"), (10, KNOWN[0]))),
     *((0, value) for value in ((23, b"20200311"), (31, b"000 "), (35, b"12345677"), (43, b"123456760       "))),
-    *((0, value) for value in ((59, b"20200309"), (67, b"XXX"), (70, b" " * 35))),
+    *((0, value) for value in ((59, b"20200309"), (67, b"QQQ"), (70, b" " * 35))),
     *((2, value) for value in ((180, b"\xff"), (1, b"01"), (17, b"000000000 "))),
     *((2, value) for value in ((3, b"00000 "), (3, b"000001"), (17, b"0000000000"), (27, b"00000000"), (35, b"12345677"))),
     *((2, value) for value in ((51, b" " * 24), (145, b"0" * 35))),
@@ -429,7 +432,7 @@ def singles(count):
         for values in fields:
             for value in values if len(values) < 40 else values[chance.under(2) :: 2]:
                 single_case(1, [change(0, value)])
-        for k in (0, 1, 2, 999999, 1000000, 4294967295, 4294967297, 9999999999):
+        for k in (0, 1, 2, 999999, 1000000, 2147483648, 4294967294, 4294967295):
             single_case(k, [])
             single_case(k, [change(0, (3, b"%06d" % (k % 1000000)))] if name == "item" else [])
         for _ in range(count):
@@ -492,12 +495,17 @@ STATUS_FOOT = [
 ]
 
 
-def reply(changes):
-    """The reply's records to a message of three items with these changes."""
-    text = joined(records(3))
+def message_of(n, changes):
+    """The message of n items with these changes."""
+    text = joined(records(n))
     for place, gone, new in reversed(ascending(changes)):
         text = text[:place] + new + text[place + gone :]
-    written = status.reply(text, E, list(BANKS), b"".join(KNOWN), b"0"[0], 7, 83000, 1000)
+    return text
+
+
+def reply(changes):
+    """The reply's records to a message of three items with these changes."""
+    written = status.reply(message_of(3, changes), *GIVEN, b"0"[0], 7, 83000, 1000)
     return written.split(b"\r\n")[:-1]
 
 
@@ -528,7 +536,177 @@ def statuses(count):
             status_case(3, [damage(at[-1])])
 
 
+# The calls on a session, one by one
+
+
+def opened(length):
+    line(b"o", b"%05d" % length)
+
+
+def taken(length, first, last, changes=()):
+    line(b"t", b"%05d %04d %04d" % (length, first, last) + written(changes))
+
+
+def closed():
+    line(b"c", b"")
+
+
+def sized(digits=b"111"):
+    line(b"z", digits)
+
+
+def put(place, old, new):
+    """The session's bytes from this place on, where they are to be others."""
+    for k, byte in enumerate(new):
+        if old[k] != byte:
+            line(b"x", b"%04d %03d" % (place + k, byte))
+
+
+WRONG_SIZES = (b"011", b"211", b"101", b"121", b"110", b"112")
+
+
+def calls_of_wrong_size():
+    """11 comes before every other refusal, alters nothing, and the session goes on."""
+    comment("two items: buffers one too short and one too long, with right and with wrong E and lists")
+    base(records(2))
+    for digits in WRONG_SIZES:
+        cut = chance.under(starts(2)[-1])
+        opened(2)
+        taken(2, 0, cut)
+        sized(digits)
+        for day, banks, known, length in ((E, BANKS, KNOWN, 2), (0, BAD_BANKS[0], BAD_KNOWN[0], 10001)):
+            given(day, banks, known)
+            if not digits.startswith(b"1"):  # of these two calls only the session has a size
+                opened(length)
+                taken(length, cut, 9999)
+            closed()
+            message_case(2, [], length)
+            message_case(2, [(20, 9999, b"")], length)
+            status_case(length, [])
+        given()
+        sized()
+        taken(2, cut, 9999)
+        closed()
+        sized(digits)
+        closed()
+        sized()
+    comment("STATUS of three items: numbers and id one too short and one too long")
+    base(reply([]))
+    for digits in WRONG_SIZES:
+        sized(digits)
+        status_case(3, [])
+        status_case(2, [])
+        status_case(3, [(0, 1, b"")])
+    sized()
+
+
+def no_session():
+    """Every call on the session is refused with 5, before 2, 3 and 4."""
+    taken(2, 0, 9999)
+    given(banks=BAD_BANKS[0], known=BAD_KNOWN[0])
+    taken(1, 0, 9999)
+    given()
+    closed()
+
+
+def calls_without_session():
+    """Never opened, closed, closed by 6, an opening refused over an open session; then opened anew."""
+    base(records(2))
+    comment("a session of zeros: 5")
+    no_session()
+    for room, name in ((2, "closed"), (1, "closed with 6")):
+        comment("two items, a session %s: 5" % name)
+        opened(room)
+        taken(room, 0, 9999)
+        closed()
+        no_session()
+    for day, length in ((20200230, 2), (E, 10001), (0, 10001)):
+        comment("two items, an opening refused: 5, until one that isn't")
+        opened(2)
+        taken(2, 0, chance.under(starts(2)[-1]))
+        given(day)
+        opened(length)
+        given()
+        no_session()
+        opened(2)
+        taken(2, 0, 9999)
+        closed()
+
+
+def numbers_out_of_range(real):
+    """docs/SESSION.md: each number of the session one beyond its range, with its place and width."""
+    numbers = [int.from_bytes(real[place : place + 8], "little") for place in range(4, 68, 8)]
+    _, room, accepted, _, refused, _, _, fill = numbers
+    record = session.record_size(real[1], real[93 : 93 + fill]) if real[1] < 2 else 1
+    return [
+        *((0, 1, mark) for mark in (0, 2, 255)),
+        *((1, 1, phase) for phase in (5, 6, 255)),
+        *((2, 1, letter) for letter in (2, 255)),
+        *((3, 1, code) for code in (100, 255)),
+        *((4, 8, day) for day in (0, 20200230, E + 2**32, E + 2**63)),
+        *((12, 8, length) for length in (10001, 2**64 - 1)),
+        *((20, 8, count) for count in (room - refused + 1, 2**64 - refused)),
+        *((28, 8, total) for total in (9999999999 * accepted + 1, 2**64 - 1)),
+        *((36, 8, count) for count in (room - accepted + 1, 2**64 - accepted)),
+        *((44, 8, total) for total in (9999999999 * refused + 1, 2**64 - 1)),
+        *((52, 8, count) for count in (accepted + 1, 2**64 - 1)),
+        *((60, 8, count) for count in (record, 2**64 - 1)),
+    ]
+
+
+def calls_on_damaged_sessions():
+    """Each number out of its range, one at a time; put right again, the session goes on."""
+    base(records(3))
+    t_codes = [change(starts(3)[1], (35, b"1234567")), change(starts(3)[2], (51, b"0" * 24))]
+    for cut, changes, room in ((0, [], 3), (100, [], 3), (178, t_codes, 3), (700, t_codes, 5), (940, [], 3), (955, t_codes, 3)):
+        comment("three items, %d bytes read: bytes that are no session's, or out of range: 5" % cut)
+        real = session.of(message_of(3, changes)[:cut], room, *GIVEN)
+        opened(room)
+        taken(room, 0, cut, changes)
+        for place, width, number in numbers_out_of_range(real):
+            right, wrong = real[place : place + width], (number % 2**64).to_bytes(width, "little")
+            if right == wrong:  # 2**64 - 0
+                continue
+            put(place, right, wrong)
+            taken(room, cut, 9999, changes)
+            closed()
+            put(place, wrong, right)
+        put(343, b"\0", b"\x07")  # held beyond the fill: it doesn't matter
+        taken(room, cut, 9999, changes)
+        closed()
+
+
+def calls_after_refused_pieces(count):
+    """Pieces refused with 2, 3 and 4 alter nothing: the message ends as if they hadn't been."""
+    for n in range(1, 6):
+        comment("messages of %d items: a refused piece before each piece, another E after the opening" % n)
+        base(records(n))
+        for _ in range(count):
+            changes = chance.of(([], [field_change(n)], [field_change(n), field_change(n)], [chance.of(break_changes(n))]))
+            room, at = chance.of((n, n, n + 1, n - 1)), 0
+            opened(room)
+            for cut in [*cuts(n), 9999]:
+                banks, known, length = chance.of(REFUSED)
+                given(chance.of((E, 0, 20210105)), banks, known)
+                taken(room + length, at, cut, changes)
+                given()
+                taken(room, at, cut, changes)
+                at = cut
+            closed()
+
+
+# Bank lists, known lists and what a table is longer, of pieces that are refused: 2, 3, 4, and two or all at once.
+REFUSED = (
+    (BAD_BANKS[0], KNOWN, 0),
+    (BANKS, BAD_KNOWN[0], 0),
+    (BANKS, KNOWN, 1),
+    (BANKS, BAD_KNOWN[1], 1),
+    (BAD_BANKS[1], BAD_KNOWN[1], 9000),
+)
+
+
 def main():
+    signal.signal(signal.SIGPIPE, signal.SIG_DFL)  # where the reader stops, end
     comment("Cases of reference/cases.py. E 20200310, seven banks, two known identifiers, reply 0, 7, 083000")
     given()
     line(b"p", PARTICULARS)
@@ -544,6 +722,10 @@ def main():
     singles(100)
     singles_given()
     statuses(40)
+    calls_without_session()
+    calls_of_wrong_size()
+    calls_on_damaged_sessions()
+    calls_after_refused_pieces(6)
 
 
 if __name__ == "__main__":

@@ -2,3 +2,4 @@ pub mod Stores
 pub mod Tells
 pub mod Sessions
 pub mod Messages
+pub mod ByPieces

@@ -1,12 +1,12 @@
 -- The calls over a whole message and over a STATUS: a buffer of a wrong size, and what the judge, the writer and the reader give.
 -- Assumes nothing.
 use mathlib.Core.Path.{_≡_, refl, ap, _∙_}
-use mathlib.Core.Bool.{true, false, cond}
+use mathlib.Core.Bool.{true, false, cond, not}
 use mathlib.Core.List.{List}
 use Prim.Native.Nat.{ℕ}
 use lib.Dec.{eqb}
 use lib.ListN.{length}
-use borrow.Author.Tests.{eq-eqb, ne-eqb, eqb-true}
+use borrow.Author.Tests.{not-true, not-false, eq-eqb, ne-eqb, eqb-true}
 use Rattle.base.proofs.Every.{both}
 use Rattle.judge.specs.declared.Judged.{Judged}
 use Rattle.judge.specs.Session.{outcomeNumber, JudgedAs}
@@ -18,20 +18,21 @@ use Rattle.nshanvekh.specs.Session.{closingNumbers, Told}
 use Rattle.nshanvekh.specs.Message.{sizedBoth, JudgedNumbers, replyNumber, replyNumbers, particularsOf, ReplyTold, RepliedAs, statusNumbers, StatusTold, StatusAs}
 
 -- numbers and identifier of the sizes that a call asks for
-module _ (ns : List ℕ) (k : ℕ) (id : List ℕ) (h : sizedBoth ns k id ≡ true) where
-  pub numbers-sized : length ns ≡ k
-  numbers-sized = eqb-true (length ns) k (both (eqb (length ns) k) _ h .0)
+pub sizes : (ns : List ℕ) (k : ℕ) (id : List ℕ) → not (sizedBoth ns k id) ≡ false → (length ns ≡ k) × (length id ≡ 25)
+sizes ns k id f =
+    let h = both (eqb (length ns) k) _ (not-false (sizedBoth ns k id) f) in
+    (eqb-true (length ns) k (h .0), eqb-true (length id) 25 (h .1))
 
-  pub id-sized : length id ≡ 25
-  id-sized = eqb-true (length id) 25 (both (eqb (length ns) k) _ h .1)
+module _ {m : List ℕ} {e : ℕ} {banks known t ns id : List ℕ} where
+  pub judge-wrong : not (sizedBoth ns 6 id) ≡ true → JudgedNumbers m e banks known t ns id 11 t ns id
+  judge-wrong f =
+      let h = not-true (sizedBoth ns 6 id) f in
+      record { answer = rw h; table = rw h; numbers = refl; identifier = refl }
 
-module _ (m : List ℕ) (e : ℕ) (banks known t ns id : List ℕ) where
-  pub judge-wrong : sizedBoth ns 6 id ≡ false → JudgedNumbers m e banks known t ns id 11 t ns id
-  judge-wrong h = record { answer = rw h; table = rw h; numbers = refl; identifier = refl }
-
-  pub judge-told : sizedBoth ns 6 id ≡ true → (j : Judged) {t′ : List ℕ} → JudgedAs e banks known t m j t′ → (n : ℕ) → n ≡ outcomeNumber (j .outcome)
+  pub judge-told : not (sizedBoth ns 6 id) ≡ false → {j : Judged} {t′ : List ℕ} → JudgedAs e banks known t m j t′ → {n : ℕ} → n ≡ outcomeNumber (j .outcome)
       → {r : ℕ} {ns′ id′ : List ℕ} → Told n (j .closing) ns id r ns′ id′ → JudgedNumbers m e banks known t ns id r t′ ns′ id′
-  judge-told h j {t′} w n q {r} {ns′} {id′} o =
+  judge-told f {j} w {n} q {r} o =
+      let h = not-false (sizedBoth ns 6 id) f in
       let a : r ≡ n = o .answer in
       record {
         answer = rw h (a ∙ q ∙ ap (λ (y : Judged). outcomeNumber (y .outcome)) (w .result));
@@ -40,7 +41,7 @@ module _ (m : List ℕ) (e : ℕ) (banks known t ns id : List ℕ) where
         identifier = rw a (o .identifier ∙ ap (λ (y : Judged). cond (eqb n 0) (y .closing .id) id) (w .result));
       }
 
-module _ (m : List ℕ) (e : ℕ) (banks known : List ℕ) (d n t : ℕ) (out ns : List ℕ) where
+module _ {m : List ℕ} {e : ℕ} {banks known : List ℕ} {d n t : ℕ} {out ns : List ℕ} where
   pub reply-wrong : (length ns ≡ 1 → ⊥) → RepliedAs m e banks known d n t out ns 11 out ns
   reply-wrong h =
       let q = ne-eqb (length ns) 1 h in
@@ -48,7 +49,7 @@ module _ (m : List ℕ) (e : ℕ) (banks known : List ℕ) (d n t : ℕ) (out ns
 
   pub reply-told : length ns ≡ 1 → {a : Answer} {out′ : List ℕ} → Replied e banks known m (particularsOf d n t) out a out′
       → {r : ℕ} {ns′ : List ℕ} → ReplyTold a ns r ns′ → RepliedAs m e banks known d n t out ns r out′ ns′
-  reply-told h {a} {out′} w {r} {ns′} o =
+  reply-told h w o =
       let q = eq-eqb (length ns) 1 h in
       record {
         told = rw q (o .answer ∙ ap replyNumber (w .result));
@@ -56,13 +57,16 @@ module _ (m : List ℕ) (e : ℕ) (banks known : List ℕ) (d n t : ℕ) (out ns
         numbers = rw q (o .numbers ∙ ap (λ (y : Answer). replyNumbers y ns) (w .result));
       }
 
-module _ (x t ns id : List ℕ) where
-  pub status-wrong : sizedBoth ns 10 id ≡ false → StatusAs x t ns id 11 t ns id
-  status-wrong h = record { answer = rw h; table = rw h; numbers = refl; identifier = refl }
+module _ {x t ns id : List ℕ} where
+  pub status-wrong : not (sizedBoth ns 10 id) ≡ true → StatusAs x t ns id 11 t ns id
+  status-wrong f =
+      let h = not-true (sizedBoth ns 10 id) f in
+      record { answer = rw h; table = rw h; numbers = refl; identifier = refl }
 
-  pub status-told : sizedBoth ns 10 id ≡ true → (y : Read) {t′ : List ℕ} → ReadAs x t y t′ → (n : ℕ) → n ≡ outcomeNumber (y .outcome)
+  pub status-told : not (sizedBoth ns 10 id) ≡ false → {y : Read} {t′ : List ℕ} → ReadAs x t y t′ → {n : ℕ} → n ≡ outcomeNumber (y .outcome)
       → {r : ℕ} {ns′ id′ : List ℕ} → StatusTold n (y .status) ns id r ns′ id′ → StatusAs x t ns id r t′ ns′ id′
-  status-told h y {t′} w n q {r} {ns′} {id′} o =
+  status-told f {y} w {n} q {r} o =
+      let h = not-false (sizedBoth ns 10 id) f in
       let a : r ≡ n = o .answer in
       record {
         answer = rw h (a ∙ q ∙ ap (λ (z : Read). outcomeNumber (z .outcome)) (w .result));

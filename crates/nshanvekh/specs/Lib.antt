@@ -1,3 +1,3 @@
 pub mod Session
 pub mod Message
-pub mod Single
+pub mod Pieces

@@ -6,15 +6,13 @@ ghost use Rattle.rules.specs.Single.{singleAnswer};
 ghost use Rattle.judge.specs.Session.{outcomeNumber};
 ghost use Rattle.nshanvekh.specs.Session.{OpenedAs, PieceAs, ClosedAs, Told};
 ghost use Rattle.nshanvekh.specs.Message.{JudgedNumbers, RepliedAs, StatusAs, StatusTold, ReplyTold};
-ghost use Rattle.nshanvekh.specs.Single.{singleNumber};
+ghost use Rattle.answers.specs.Single.{singleNumber};
 use judge::Closing;
 use judge::Outcome;
 use judge::Session;
 use status::Status;
 use status::reply::Answer;
 use status::reply::Particulars;
-
-mod single;
 
 // The number of an outcome: 0, or the refusal's.
 fn number_of(o: Outcome) -> u32
@@ -76,16 +74,7 @@ pub extern "C" fn nsh_piece(
     if session.len() != packed::BYTES {
         return 11;
     }
-    let s = packed::unpack(session);
-    let t = s.take(bytes, banks, known, table);
-    let o = t.outcome;
-    let after = t.next;
-    let n = number_of(o);
-    if n != 0 {
-        return n;
-    }
-    packed::pack(after, session);
-    n
+    number_of(packed::take(session, bytes, banks, known, table))
 }
 
 // The message is over: refusals 11, 5, 6. 5 leaves all that is lent as it was, 6 closes the session and writes nothing else.
@@ -136,7 +125,7 @@ pub extern "C" fn nsh_judge(
 pub extern "C" fn nsh_single(x: &[u8], day: u32, banks: &[u32], known: &[u8], place: u32) -> u32
     ensures { λ r. ⌜ r ≡ singleNumber (singleAnswer day (now (banks .entry)) (now (known .entry)) place (now (x .entry))) ⌝ }
 {
-    single::number(rules::single::judge(x, place as u64, day, banks, known))
+    answers::number(rules::single::judge(x, place as u64, day, banks, known))
 }
 
 // The reply's length is written, or the refusal told.

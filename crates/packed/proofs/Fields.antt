@@ -10,10 +10,11 @@ use borrow.Author.Tests.{eqb-true, leb-true, eq-eqb, ne-eqb}
 use Rattle.base.proofs.Every.{both}
 use Rattle.calendar.specs.Calendar.{isDate}
 use Rattle.judge.specs.declared.Totals.{Totals}
+use Rattle.judge.specs.declared.Tally.{Tally}
 use Rattle.judge.specs.declared.Session.{Session}
 use Rattle.judge.specs.declared.Taken.{Taken}
-use Rattle.judge.specs.Session.{opened, closedSession}
-use Rattle.packed.specs.Packed.{valueAt, totalsAt, isPacked, sessionIn, unpacked}
+use Rattle.judge.specs.Session.{partsOf, opened, closedSession}
+use Rattle.packed.specs.Packed.{valueAt, totalsAt, isPacked, tallyIn, sessionIn, unpacked}
 
 module _ (x : List ℕ) where
   -- another length
@@ -43,15 +44,23 @@ module _ (x : List ℕ) where
     unfolding isPacked
     day-fits = leb-true (valueAt 4 x) 4294967295 (both (leb (getD x 2 0) 1) _ (both (eqb (getD x 0 0) 1) _ (both (eqb (length x) 344) _ h .1) .1) .1)
 
+  -- what reading asks for
+  pub readable : isPacked x ≡ true → (length x ≡ 344) × (valueAt 4 x ≤ 4294967295)
+  readable h = (long h, day-fits h)
+
   pub totals : (at : ℕ) {n m : ℕ} → n ≡ valueAt at x → m ≡ valueAt (at + 8) x → record { count = n; sum = m } ≡ totalsAt at x
   totals at p q = rw (p, q)
 
   -- each field at its place
-  pub fields : {a r : Totals} {id held : List ℕ} {z d o f : ℕ} → a ≡ totalsAt 20 x → r ≡ totalsAt 36 x → id ≡ take 25 (drop 68 x) → held ≡ take 251 (drop 93 x)
-      → z ≡ valueAt 52 x → d ≡ valueAt 4 x → o ≡ valueAt 12 x → f ≡ valueAt 60 x
-      → record { day = d; room = o; tally = record { phase = getD x 1 0; letter = eqb (getD x 2 0) 1; code = getD x 3 0; accepted = a; refused = r; zeros = z; id = id }; fill = f; held = held } ≡ sessionIn x
+  pub tally-fields : {a r : Totals} {id : List ℕ} {z : ℕ} → a ≡ totalsAt 20 x → r ≡ totalsAt 36 x → id ≡ take 25 (drop 68 x) → z ≡ valueAt 52 x
+      → record { phase = getD x 1 0; letter = eqb (getD x 2 0) 1; code = getD x 3 0; accepted = a; refused = r; zeros = z; id = id } ≡ tallyIn x
+  unfolding tallyIn
+  tally-fields a r i z = rw (a, r, i, z)
+
+  pub fields : {c : Tally} {held : List ℕ} {d o f : ℕ} → c ≡ tallyIn x → held ≡ take 251 (drop 93 x) → d ≡ valueAt 4 x → o ≡ valueAt 12 x → f ≡ valueAt 60 x
+      → partsOf d o c f held ≡ sessionIn x
   unfolding sessionIn
-  fields a r i h z d o f = rw (a, r, i, h, z, d, o, f)
+  fields c h d o f = rw (c, h, d, o, f)
 
   pub packed : {b : Bool} → b ≡ isPacked x → b ≡ true → {s : Session} → s ≡ sessionIn x → s ≡ unpacked x
   unfolding unpacked

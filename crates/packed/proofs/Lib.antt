@@ -3,3 +3,4 @@ pub mod Copy
 pub mod Parts
 pub mod Fields
 pub mod RoundTrip
+pub mod Taking

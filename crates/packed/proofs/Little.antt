@@ -7,7 +7,7 @@ use native.Mathlib.Nat.{add-zero, pow-suc, pow-le-pow-right, div-lt-iff-lt-mul, 
 use native.Mathlib.Omega.{arith}
 use lib.Dec.{lit<}
 use lib.ListN.{length, getD, set, take, drop, length-append, length-set, length-drop}
-use lib.Seq.{drop-cons}
+use lib.Seq.{drop-cons, length-take-le, getD-take, getD-drop}
 use Rattle.base.specs.Bytes.{over}
 use Rattle.base.proofs.Over.{length-over, over-none, over-over, over-set}
 use Rattle.base.proofs.Walk.{step, done}
@@ -27,8 +27,17 @@ value-little (suc k) n h =
     let e = value-little k (n / 256) q in
     simp e (div-add-mod' n 256)
 
+-- bytes stand for less than 256 to their number
+value-lt : (bs : List ℕ) → ((i : ℕ) → i < length bs → getD bs i 0 < 256) → value bs < 256 ^ length bs
+unfolding value
+value-lt [] h = lit< tt
+value-lt (b ∷ bs) h =
+    let l : b < 256 = h 0 (omega arith) in
+    let e = value-lt bs (λ (i : ℕ) (k : i < length bs). h (suc i) (omega arith)) in
+    rw pow-suc (omega arith)
+
 -- writing what was read
-pub little-value : (bs : List ℕ) → ((i : ℕ) → i < length bs → getD bs i 0 < 256) → little (length bs) (value bs) ≡ bs
+little-value : (bs : List ℕ) → ((i : ℕ) → i < length bs → getD bs i 0 < 256) → little (length bs) (value bs) ≡ bs
 unfolding little value
 little-value [] h = refl
 little-value (b ∷ bs) h =
@@ -37,6 +46,23 @@ little-value (b ∷ bs) h =
     let d : (value bs * 256 + b) / 256 ≡ value bs = omega arith in
     let e = little-value bs (λ (i : ℕ) (k : i < length bs). h (suc i) (omega arith)) in
     simp (m, d, e)
+
+-- eight bytes of a list
+module _ (x : List ℕ) (a : ℕ) (b : (i : ℕ) → getD x i 0 < 256) (h : a + 8 ≤ length x) where
+  abbrev y : List ℕ
+  y = take 8 (drop a x)
+
+  eight-length : length y ≡ 8
+  eight-length = length-take-le 8 (drop a x) (omega (arith, length-drop a x))
+
+  eight-bytes : (i : ℕ) → i < length y → getD y i 0 < 256
+  eight-bytes i k = rw (getD-take 8 (drop a x) i 0 (omega (arith, eight-length)), getD-drop a x i 0) (b (a + i))
+
+  pub value-small : valueAt a x < 18446744073709551616
+  value-small = rw eight-length at (value-lt y eight-bytes)
+
+  pub eight : little 8 (valueAt a x) ≡ y
+  eight = ap (λ (n : ℕ). little n (value y)) (sym eight-length) ∙ little-value y eight-bytes
 
 pub eights-length : (ns : List ℕ) → length (eights ns) ≡ length ns * 8
 unfolding eights

@@ -6,9 +6,14 @@ use mathlib.Core.Bool.{Bool, cond, _&&_}
 use mathlib.Core.List.{List, [], _∷_, _++_}
 use lib.ListN.{length, getD, take, drop}
 use lib.Dec.{leb, eqb}
+use Rattle.base.specs.Bytes.{over}
 use Rattle.judge.specs.declared.Totals.{Totals}
+use Rattle.judge.specs.declared.Tally.{Tally}
 use Rattle.judge.specs.declared.Session.{Session}
-use Rattle.judge.specs.Session.{closedSession}
+use Rattle.judge.specs.declared.Outcome.{Outcome}
+use Rattle.judge.specs.declared.Step.{Step}
+use Rattle.judge.specs.Session.{closedSession, taken, tableTaken, Stepped}
+use Rattle.judge.specs.Feeding.{by}
 
 -- a number in k bytes, the least first
 unfoldable pub little : ℕ → ℕ → List ℕ
@@ -33,28 +38,26 @@ valueAt at x = value (take 8 (drop at x))
 abbrev pub totalsAt : ℕ → List ℕ → Totals
 totalsAt at x = record { count = valueAt at x; sum = valueAt (at + 8) x }
 
--- the mark, phase, letter and code, a byte each
-unfoldable pub front : Session → List ℕ
-front s = 1 ∷ s .tally .phase ∷ cond (s .tally .letter) 1 0 ∷ s .tally .code ∷ []
+-- phase, letter and code, a byte each
+unfoldable pub flags : Tally → List ℕ
+flags c = c .phase ∷ cond (c .letter) 1 0 ∷ c .code ∷ []
 
--- the numbers, in their order
-unfoldable pub numbers : Session → List ℕ
-numbers s =
-    s .day
-    ∷ s .room
-    ∷ s .tally .accepted .count
-    ∷ s .tally .accepted .sum
-    ∷ s .tally .refused .count
-    ∷ s .tally .refused .sum
-    ∷ s .tally .zeros
-    ∷ s .fill
+-- what was counted, and how many bytes are held
+unfoldable pub counts : Tally → ℕ → List ℕ
+counts c fill =
+    c .accepted .count
+    ∷ c .accepted .sum
+    ∷ c .refused .count
+    ∷ c .refused .sum
+    ∷ c .zeros
+    ∷ fill
     ∷ []
 
 -- the bytes of a session
 unfoldable pub bytesOf : Session → List ℕ
 bytesOf s =
-    front s  -- 0-3
-    ++ eights (numbers s)  -- 4-67
+    1 ∷ flags (s .tally)  -- 0-3
+    ++ eights (s .day ∷ s .room ∷ counts (s .tally) (s .fill))  -- 4-67
     ++ s .tally .id  -- 68-92
     ++ s .held  -- 93-343
 
@@ -63,23 +66,21 @@ unfoldable pub isPacked : List ℕ → Bool
 isPacked x = eqb (length x) 344 && (eqb (getD x 0 0) 1 && (leb (getD x 2 0) 1 && leb (valueAt 4 x) 4294967295))
 
 -- the session that such bytes stand for
+unfoldable pub tallyIn : List ℕ → Tally
+tallyIn x =
+    record {
+      phase = getD x 1 0;
+      letter = eqb (getD x 2 0) 1;
+      code = getD x 3 0;
+      accepted = totalsAt 20 x;
+      refused = totalsAt 36 x;
+      zeros = valueAt 52 x;
+      id = take 25 (drop 68 x);
+    }
+
 unfoldable pub sessionIn : List ℕ → Session
 sessionIn x =
-    record {
-      day = valueAt 4 x;
-      room = valueAt 12 x;
-      tally = record {
-        phase = getD x 1 0;
-        letter = eqb (getD x 2 0) 1;
-        code = getD x 3 0;
-        accepted = totalsAt 20 x;
-        refused = totalsAt 36 x;
-        zeros = valueAt 52 x;
-        id = take 25 (drop 68 x);
-      };
-      fill = valueAt 60 x;
-      held = take 251 (drop 93 x);
-    }
+    record { day = valueAt 4 x; room = valueAt 12 x; tally = tallyIn x; fill = valueAt 60 x; held = take 251 (drop 93 x) }
 
 -- any other bytes stand for the closed session
 unfoldable pub unpacked : List ℕ → Session
@@ -91,15 +92,39 @@ pub record PackedAs (s : Session) (x : List ℕ) (r : Bool) (x′ : List ℕ) : 
   pub bytes : x′ ≡ cond (eqb (length x) 344) (bytesOf s) x
   pub back : unpacked (bytesOf s) ≡ s
 
--- every number of a session fits the type of its field, as in each session that code holds
+-- taking a piece in place: the outcome, every byte of the session and of the table; the bytes then stand for the session to use next
+pub record TakenIn (x p banks known t : List ℕ) (r : Outcome) (x′ t′ : List ℕ) : Type 0 where
+  pub outcome : r ≡ taken (unpacked x) p banks known t .outcome
+  pub session : x′ ≡ by r (bytesOf (taken (unpacked x) p banks known t .next)) (λ f. x)
+  pub table : t′ ≡ tableTaken (unpacked x) p banks known t
+  pub holds : unpacked x′ ≡ taken (unpacked x) p banks known t .next
+
+-- every number fits the type of its field, as in each tally and each session that code holds
+pub record TallyFits (c : Tally) (held : ℕ) : Type 0 where
+  pub acceptedCount : c .accepted .count < 18446744073709551616
+  pub acceptedSum : c .accepted .sum < 18446744073709551616
+  pub refusedCount : c .refused .count < 18446744073709551616
+  pub refusedSum : c .refused .sum < 18446744073709551616
+  pub zeros : c .zeros < 18446744073709551616
+  pub fill : held < 18446744073709551616
+  pub id : length (c .id) ≡ 25
+
 pub record Fits (s : Session) : Type 0 where
   pub day : s .day < 4294967296
   pub room : s .room < 18446744073709551616
-  pub acceptedCount : s .tally .accepted .count < 18446744073709551616
-  pub acceptedSum : s .tally .accepted .sum < 18446744073709551616
-  pub refusedCount : s .tally .refused .count < 18446744073709551616
-  pub refusedSum : s .tally .refused .sum < 18446744073709551616
-  pub zeros : s .tally .zeros < 18446744073709551616
-  pub fill : s .fill < 18446744073709551616
-  pub id : length (s .tally .id) ≡ 25
+  pub tally : TallyFits (s .tally) (s .fill)
   pub held : length (s .held) ≡ 251
+
+-- a tally and how many bytes are held, over their places
+unfoldable pub tallyOver : Tally → ℕ → List ℕ → List ℕ
+tallyOver c fill x = over (over (over x 1 (flags c)) 20 (eights (counts c fill))) 68 (c .id)
+
+pub record TallyPut (c : Tally) (fill : ℕ) (x x′ : List ℕ) : Type 0 where
+  pub bytes : x′ ≡ tallyOver c fill x
+  pub fits : TallyFits c fill
+
+-- a piece is taken with the bytes held where they stand; the bytes before them stay
+pub record SteppedIn (x p banks known t : List ℕ) (r : Step) (x′ t′ : List ℕ) : Type 0 where
+  pub stays : x′ ≡ over x 93 (drop 93 x′)
+  pub long : length x′ ≡ 344
+  pub held : Stepped (valueAt 4 x) (valueAt 12 x) (tallyIn x) (valueAt 60 x) (take 251 (drop 93 x)) p banks known t r (drop 93 x′) t′

@@ -1,6 +1,5 @@
 // A session as bytes, for a host that keeps it in memory of its own (docs/SESSION.md, The session as bytes).
 ghost use mathlib.Core.Path.{_≡_};
-ghost use mathlib.Core.Bool.{true};
 ghost use Prim.Native.Nat.{_+_, _*_, _≤_};
 ghost use lib.ListN.{length, take, drop};
 ghost use Rattle.base.specs.Bytes.{over};
@@ -10,13 +9,20 @@ ghost use Rattle.packed.specs.Packed.{
   totalsAt,
   eights,
   isPacked,
+  tallyIn,
   sessionIn,
   unpacked,
   PackedAs,
+  TakenIn,
+  TallyPut,
+  SteppedIn,
 };
+use judge::Outcome;
 use judge::Session;
+use judge::Step;
 use judge::Tally;
 use judge::Totals;
+use rules::refusal::Refusal;
 
 // The bytes of a packed session.
 pub const BYTES: usize = 344;
@@ -56,6 +62,20 @@ fn put_bytes(out: &mut [u8], at: usize, s: &[u8])
     text::put(&mut out[at..], s);
 }
 
+// A tally and how many bytes are held, in their places.
+fn put_tally(t: Tally, fill: usize, out: &mut [u8])
+    requires { ⌜ length (now out) ≡ 344 ⌝ }
+    ensures { λ _. ⌜ TallyPut t fill (now (out .entry)) (now (out .exit)) ⌝ }
+{
+    let a = t.accepted;
+    let r = t.refused;
+    let id = t.id;
+    put_bytes(out, 1, &[t.phase, t.letter as u8, t.code]);
+    let numbers = [a.count, a.sum, r.count, r.sum, t.zeros, fill as u64];
+    put_numbers(out, 20, &numbers);
+    put_bytes(out, 68, &id);
+}
+
 // The bytes of a session, in place of all that is lent. Where that isn't 344 bytes, the answer is false and nothing is written.
 pub fn pack(s: Session, out: &mut [u8]) -> bool
     ensures { λ r. ⌜ PackedAs s (now (out .entry)) r (now (out .exit)) ⌝ }
@@ -64,23 +84,10 @@ pub fn pack(s: Session, out: &mut [u8]) -> bool
         return false;
     }
     let t = s.tally;
-    let a = t.accepted;
-    let r = t.refused;
-    let id = t.id;
     let held = s.held;
-    put_bytes(out, 0, &[1, t.phase, t.letter as u8, t.code]);
-    let numbers = [
-        s.day as u64,
-        s.room as u64,
-        a.count,
-        a.sum,
-        r.count,
-        r.sum,
-        t.zeros,
-        s.fill as u64,
-    ];
-    put_numbers(out, 4, &numbers);
-    put_bytes(out, 68, &id);
+    put_bytes(out, 0, &[1]);
+    put_numbers(out, 4, &[s.day as u64, s.room as u64]);
+    put_tally(t, s.fill, out);
     put_bytes(out, 93, &held);
     true
 }
@@ -148,9 +155,29 @@ fn totals_at(x: &[u8], at: usize) -> Totals
     }
 }
 
-// The session that bytes stand for.
+// The tally that bytes stand for.
+fn tally_in(x: &[u8]) -> Tally
+    requires { ⌜ length (now x) ≡ 344 ⌝ }
+    ensures { λ r. ⌜ r ≡ tallyIn (now (x .entry)) ⌝ }
+{
+    let accepted = totals_at(x, 20);
+    let refused = totals_at(x, 36);
+    let id = id_in(x);
+    Tally {
+        phase: x[1],
+        letter: x[2] == 1,
+        code: x[3],
+        accepted: accepted,
+        refused: refused,
+        zeros: number_at(x, 52),
+        id: id,
+    }
+}
+
+// The session that bytes stand for. It reads the tally itself: with one caller `tally_in` is compiled in line (docs/FIGURES.md).
 fn session_in(x: &[u8]) -> Session
-    requires { ⌜ isPacked (now x) ≡ true ⌝ }
+    requires { ⌜ length (now x) ≡ 344 ⌝ }
+    requires { ⌜ valueAt 4 (now x) ≤ 4294967295 ⌝ }
     ensures { λ r. ⌜ r ≡ sessionIn (now (x .entry)) ⌝ }
 {
     let accepted = totals_at(x, 20);
@@ -186,4 +213,43 @@ pub fn unpack(x: &[u8]) -> Session
     let none = Session::open(0, x);
     let s = none.next;
     s
+}
+
+// The session in the bytes takes a piece. The bytes held are worked on where they stand; nothing else of it is written.
+fn step_in(session: &mut [u8], bytes: &[u8], banks: &[u32], known: &[u8], table: &mut [u8]) -> Step
+    requires { ⌜ length (now session) ≡ 344 ⌝ }
+    requires { ⌜ valueAt 4 (now session) ≤ 4294967295 ⌝ }
+    ensures { λ r. ⌜ SteppedIn (now (session .entry)) (now (bytes .entry)) (now (banks .entry)) (now (known .entry)) (now (table .entry)) r (now (session .exit)) (now (table .exit)) ⌝ }
+{
+    let day = number_at(session, 4) as u32;
+    let room = number_at(session, 12) as usize;
+    let tally = tally_in(session);
+    let fill = number_at(session, 60) as usize;
+    let held = &mut session[93..];
+    judge::take_lent(day, room, tally, fill, held, bytes, banks, known, table)
+}
+
+// A piece is taken where the session stands as bytes: refusals 5, 2, 3, 4. A refusal leaves session and table as they were.
+pub fn take(
+    session: &mut [u8],
+    bytes: &[u8],
+    banks: &[u32],
+    known: &[u8],
+    table: &mut [u8],
+) -> Outcome
+    ensures { λ r. ⌜ TakenIn (now (session .entry)) (now (bytes .entry)) (now (banks .entry)) (now (known .entry)) (now (table .entry)) r (now (session .exit)) (now (table .exit)) ⌝ }
+{
+    if !is_packed(session) {
+        return Outcome::Refused(Refusal::Session);
+    }
+    let step = step_in(session, bytes, banks, known, table);
+    let t = step.tally;
+    let o = step.outcome;
+    match o {
+        Outcome::Done => {
+            put_tally(t, step.fill, session);
+            Outcome::Done
+        }
+        Outcome::Refused(r) => Outcome::Refused(r),
+    }
 }

@@ -1,240 +1,201 @@
-// Tries the cases of the script on standard input: messages, judged whole and by pieces, with the reply written and read back; single
-// records; STATUS messages. reference/cases.py makes the script; reference/trial.py gives the expected output and says what a line is.
+// Tries the cases of the script on standard input through the calls that a host in C links (include/nshanvekh.h): messages, judged
+// whole and by pieces, with the reply written and read back; single records; STATUS messages; a session, call by call.
+// reference/cases.py makes the script; reference/trial.py gives the expected output and says what a line is.
 ghost use Prim.Native.Nat.{_≤_};
 ghost use lib.ListN.{length};
 
 mod pieces;
+mod same;
+mod session;
 mod show;
 mod words;
 
-use crate::show::number_of;
+use crate::session::Memory;
 use crate::show::put;
 use crate::show::put_number;
-use crate::show::put_single;
-use crate::show::put_status;
+use crate::show::put_numbers;
 use crate::show::put_sums;
+use crate::words::TABLE;
 use crate::words::Text;
 use crate::words::append;
 use crate::words::changed;
-use crate::words::clear;
 use crate::words::end_of;
 use crate::words::field;
 use crate::words::fill;
-use crate::words::is_clear;
 use crate::words::least;
+use crate::words::size;
 use crate::words::small;
 use libc::STDIN_FILENO;
-use status::reply::Answer;
-use status::reply::Particulars;
 
-// The most bytes of the script, of a reply here, and of a code table: one more than 01 lets a table have.
+// The most bytes of the script, and of a reply here.
 const SCRIPT: usize = 1048576;
 
 const REPLY: usize = 2000;
 
-const TABLE: usize = 10001;
-
-// The clearing day, where the lists and the particulars start in the script, and the length of the base text.
+// The clearing day, where the lists and the particulars start in the script, the length of the base text, and, as
+// three digits, how the sizes of session, numbers and identifier lie to the right ones.
 struct Given {
     day: u32,
     banks: usize,
     known: usize,
     particulars: usize,
     base: usize,
+    sizes: u32,
 }
 
-// Where the line that starts at a place ends: the place of its 0Ah, or the end.
-fn line_end(s: &[u8], from: usize) -> usize
-    requires { ⌜ from ≤ length (now s) ⌝ }
-    ensures { λ r. ⌜ (from ≤ r) × (r ≤ length (now (s .entry))) ⌝ }
-{
-    end_of(s, from, b'\n')
-}
-
-// The bytes are read as a STATUS.
-fn read(bytes: &[u8], table: &mut [u8]) {
-    clear(table);
-    let read = reading::read_status(bytes, table);
-    let o = read.outcome;
-    let s = read.status;
+// The bytes are read as a STATUS, and what that gave is shown.
+fn read_into(bytes: &[u8], table: &mut [u8], numbers: &mut [u64], id: &mut [u8]) {
+    let n = nshanvekh::nsh_read_status(bytes, table, numbers, id);
     put(b" r");
-    put_number(number_of(o));
-    put_status(s);
+    put_number(n as u64);
+    put_numbers(numbers);
+    put_sums(id);
     put_sums(table);
 }
 
-// The refusal of a writing and the reply's length, 0 for none: the length.
-fn put_written(a: Answer) -> usize {
-    put(b" w");
-    match a {
-        Answer::Refused(r) => {
-            put_number(rules::refusal::number(r) as u64);
-            put_number(0);
-            0
-        }
-        Answer::Written(n) => {
-            put_number(0);
-            put_number(n as u64);
-            n
-        }
-    }
+// The bytes are read as a STATUS: five digits the table's length.
+fn read(bytes: &[u8], r: &[u8], z: u32) {
+    let mut table = [255u8; TABLE];
+    let mut numbers = [255u64; 11];
+    let mut id = [255u8; 26];
+    let length = least(field(r, 0, 5), TABLE);
+    let count = size(10, z / 10);
+    let end = size(25, z);
+    read_into(
+        bytes,
+        &mut table[0..length],
+        &mut numbers[0..count],
+        &mut id[0..end],
+    );
 }
 
-// The particulars of a line: duplicate code, number, time.
-fn particulars(r: &[u8]) -> Particulars {
-    if r.len() < 23 {
-        return Particulars {
-            duplicate: 0,
-            number: 0,
-            time: 0,
-        };
-    }
-    Particulars {
-        duplicate: r[0],
-        number: small(&r[2..12]),
-        time: small(&r[13..23]),
-    }
-}
-
-// The reply to the message is written and read back.
-fn replied(
+// The reply to the message is written to the front of the output, by the particulars of a line, and what that told is shown.
+fn written(
     message: &[u8],
-    r: &[u8],
+    p: &[u8],
     day: u32,
     banks: &[u32],
     known: &[u8],
     out: &mut [u8],
-    table: &mut [u8],
-) {
-    let room = least(field(r, 24, 28), out.len());
-    clear(out);
-    let a = status::reply::write(
+    numbers: &mut [u64],
+) -> u32 {
+    if p.len() < 23 {
+        return 8;
+    }
+    let n = nshanvekh::nsh_reply(
+        message,
         day,
         banks,
         known,
-        message,
-        particulars(r),
-        &mut out[0..room],
+        p[0],
+        small(&p[2..12]),
+        small(&p[13..23]),
+        out,
+        numbers,
     );
-    let n = least(put_written(a), out.len());
-    put_sums(&out[0..n]);
-    put_number(is_clear(&out[n..]));
-    read(&out[0..n], table);
+    put(b" w");
+    put_number(n as u64);
+    put_numbers(numbers);
+    n
 }
 
-// A message is judged and replied to, in tables of one length.
-fn answered(
-    message: &[u8],
-    cuts: &[u8],
-    p: &[u8],
-    day: u32,
-    banks: &[u32],
-    known: &[u8],
-    kept: &mut [u8],
-    table: &mut [u8],
-) {
-    let mut out = [0u8; REPLY];
-    pieces::judged(message, cuts, day, banks, known, kept, table);
-    replied(message, p, day, banks, known, &mut out, table);
+// The output after the writing of a reply of so many bytes, and what is read from it.
+fn read_back(out: &[u8; REPLY], n: u64, r: &[u8], z: u32) {
+    let all = &out[..];
+    let end = least(n as usize, all.len());
+    put_sums(&all[0..end]);
+    put_sums(&all[end..]);
+    read(&all[0..end], r, z);
 }
 
-// A message is judged and replied to: five digits the table's length, a space, the cuts.
-fn message_case(message: &[u8], r: &[u8], p: &[u8], day: u32, banks: &[u32], known: &[u8]) {
-    let mut kept = [0u8; TABLE];
-    let mut table = [0u8; TABLE];
-    let end = least(field(r, 0, 5), TABLE);
-    let from = least(6, r.len());
-    answered(
+// The reply to the message is written and read back.
+fn replied(message: &[u8], r: &[u8], p: &[u8], z: u32, day: u32, banks: &[u32], known: &[u8]) {
+    let mut out = [255u8; REPLY];
+    let mut numbers = [255u64; 2];
+    let room = least(field(p, 24, 28), REPLY);
+    let count = size(1, z / 10);
+    let n = written(
         message,
-        &r[from..],
         p,
         day,
         banks,
         known,
-        &mut kept[0..end],
-        &mut table[0..end],
+        &mut out[0..room],
+        &mut numbers[0..count],
     );
+    if n != 0 {
+        read_back(&out, 0, r, z);
+        return;
+    }
+    read_back(&out, numbers[0], r, z);
 }
 
-// A text is read as a STATUS: five digits the table's length.
-fn status_case(text: &[u8], r: &[u8]) {
-    let mut table = [0u8; TABLE];
-    let end = least(field(r, 0, 5), TABLE);
-    read(text, &mut table[0..end]);
-}
-
-// A text is tried, with a list of so many banks.
+// The text, the first n bytes, is tried, with the first banks of a list.
 fn tried(
     command: u8,
-    text: &[u8],
+    text: &Text,
+    n: usize,
     r: &[u8],
     p: &[u8],
-    day: u32,
+    g: Given,
     list: &[u32; 40],
     banks: usize,
     known: &[u8],
+    session: &mut Memory,
 ) {
-    let all = &list[..];
-    let count = least(banks, all.len());
-    let listed = &all[0..count];
+    let text = &text[..];
+    let end = least(n, text.len());
+    let text = &text[0..end];
+    let list = &list[..];
+    let count = least(banks, list.len());
+    let list = &list[0..count];
+    let z = g.sizes;
     match command {
-        b'j' => message_case(text, r, p, day, listed, known),
-        b's' => put_single(rules::single::judge(text, digits::number(r), day, listed, known)),
-        b'r' => status_case(text, r),
-        _ => put(b" ?"),
+        b'j' => {
+            pieces::judged(text, r, z, g.day, list, known);
+            replied(text, r, p, z, g.day, list, known);
+        }
+        b's' => put_number(nshanvekh::nsh_single(text, g.day, list, known, small(r)) as u64),
+        b'r' => read(text, r, z),
+        _ => session::called(command, text, r, z, g.day, list, known, session),
     }
 }
 
-// The text, the first n bytes, is tried with what is given.
-fn with_given(s: &[u8], g: Given, command: u8, text: &[u8], n: usize, r: &[u8]) {
+// A case: its own words, and after | the changes of the base text. It is tried with what is given.
+fn case(s: &[u8], g: Given, command: u8, r: &[u8], base: &[u8], session: &mut Memory) {
+    let mut text = [0u8; words::MOST];
     let mut list = [0u32; 40];
-    let from = least(g.banks, s.len());
-    let end = line_end(s, from);
-    let count = fill(&mut list, &s[from..end]);
-    let from = least(g.known, s.len());
-    let end = line_end(s, from);
-    let known = &s[from..end];
-    let from = least(g.particulars, s.len());
-    let end = line_end(s, from);
-    let whole = least(n, text.len());
-    tried(
-        command,
-        &text[0..whole],
-        r,
-        &s[from..end],
-        g.day,
-        &list,
-        count,
-        known,
-    );
-}
-
-// A case: its own words, and after | the changes of the base text.
-fn case(s: &[u8], g: Given, command: u8, r: &[u8], base: &[u8], text: &mut Text) {
     let own = end_of(r, 0, b'|');
     let from = least(own + 1, r.len());
     let m = least(g.base, base.len());
-    let n = changed(text, &base[0..m], &r[from..]);
+    let n = changed(&mut text, &base[0..m], &r[from..]);
+    let from = least(g.banks, s.len());
+    let end = end_of(s, from, b'\n');
+    let count = fill(&mut list, &s[from..end]);
+    let from = least(g.known, s.len());
+    let end = end_of(s, from, b'\n');
+    let known = &s[from..end];
+    let from = least(g.particulars, s.len());
+    let end = end_of(s, from, b'\n');
+    let p = &s[from..end];
     let name = [command];
     put(&name);
-    with_given(s, g, command, text, n, &r[0..own]);
+    tried(
+        command,
+        &text,
+        n,
+        &r[0..own],
+        p,
+        g,
+        &list,
+        count,
+        known,
+        session,
+    );
     put(b"\n");
 }
 
-// A line that makes the base text longer or empty: the new length.
-fn built(command: u8, r: &[u8], base: &mut Text, at: usize) -> usize {
-    match command {
-        b'm' => 0,
-        b'-' => append(base, at, r),
-        b'+' => {
-            let end = append(base, at, r);
-            append(base, end, b"\r\n")
-        }
-        _ => at,
-    }
-}
-
-// A line that sets the clearing day, a list or the particulars, which start at a place, or builds the base text.
+// A line that sets the clearing day, a list or the particulars, which start at a place, or sizes, or builds the base text.
 fn set(command: u8, r: &[u8], start: usize, g: Given, base: &mut Text) -> Given {
     let mut next = g;
     match command {
@@ -242,13 +203,19 @@ fn set(command: u8, r: &[u8], start: usize, g: Given, base: &mut Text) -> Given 
         b'b' => next.banks = start,
         b'k' => next.known = start,
         b'p' => next.particulars = start,
-        _ => next.base = built(command, r, base, g.base),
+        b'z' => next.sizes = small(r),
+        b'm' => next.base = 0,
+        b'-' => next.base = append(base, g.base, r),
+        _ => {
+            let end = append(base, g.base, r);
+            next.base = append(base, end, b"\r\n");
+        }
     }
     next
 }
 
-// A line is a comment, a case, or sets something.
-fn line(s: &[u8], at: usize, end: usize, g: Given, base: &mut Text, text: &mut Text) -> Given
+// A line is a comment, a case, puts a byte into the session, or sets something.
+fn line(s: &[u8], at: usize, end: usize, g: Given, base: &mut Text, session: &mut Memory) -> Given
     requires { ⌜ (at ≤ end) × (end ≤ length (now s)) ⌝ }
 {
     let r = &s[at..end];
@@ -262,44 +229,49 @@ fn line(s: &[u8], at: usize, end: usize, g: Given, base: &mut Text, text: &mut T
             put(b"\n");
             g
         }
-        b'j' | b's' | b'r' => {
-            case(s, g, command, &r[2..], base, text);
+        b'j' | b's' | b'r' | b'o' | b't' | b'c' => {
+            case(s, g, command, &r[2..], base, session);
+            g
+        }
+        b'x' => {
+            session::put_byte(&r[2..], session);
             g
         }
         _ => set(command, &r[2..], at + 2, g, base),
     }
 }
 
-// The script is run.
-fn lines(s: &[u8], base: &mut Text, text: &mut Text) {
+// The script is run: at first there are empty lists and right sizes.
+fn lines(s: &[u8], base: &mut Text, session: &mut Memory) {
     let mut g = Given {
         day: 0,
         banks: s.len(),
         known: s.len(),
         particulars: s.len(),
         base: 0,
+        sizes: 111,
     };
     let mut at = 0;
     while at < s.len() {
-        let end = line_end(s, at);
-        g = line(s, at, end, g, base, text);
+        let end = end_of(s, at, b'\n');
+        g = line(s, at, end, g, base, session);
         at = end + 1;
     }
 }
 
 // The script is read into the space and run.
-fn script(space: &mut [u8], base: &mut Text, text: &mut Text) {
+fn script(space: &mut [u8], base: &mut Text, session: &mut Memory) {
     let n = io::read_full(STDIN_FILENO, space);
-    lines(&space[..n], base, text);
+    lines(&space[..n], base, session);
 }
 
-fn held(space: &mut [u8; SCRIPT], base: &mut Text, text: &mut Text) {
-    script(space, base, text);
+fn held(space: &mut [u8; SCRIPT], base: &mut Text, session: &mut Memory) {
+    script(space, base, session);
 }
 
 fn main() {
     let mut space = [0u8; SCRIPT];
     let mut base = [0u8; words::MOST];
-    let mut text = [0u8; words::MOST];
-    held(&mut space, &mut base, &mut text);
+    let mut session = [0u8; 345];
+    held(&mut space, &mut base, &mut session);
 }

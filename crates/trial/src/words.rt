@@ -1,5 +1,5 @@
-// The words of a script: numbers, lists, and texts made of a base text.
-ghost use Prim.Native.Nat.{_≤_};
+// The words of a script: numbers, sizes, lists, and texts made of a base text.
+ghost use Prim.Native.Nat.{_+_, _≤_};
 ghost use lib.ListN.{length};
 
 // The most bytes of a text.
@@ -7,6 +7,21 @@ pub(crate) const MOST: usize = 8192;
 
 // The memory that a text is made in.
 pub(crate) type Text = [u8; MOST];
+
+// The memory of a code table: one byte more than 01 lets a table have.
+pub(crate) const TABLE: usize = 10001;
+
+// The size of a buffer that is to have so many elements, by the last digit of a number: 0 one too few, 2 one too many, else right.
+pub(crate) fn size(right: usize, sign: u32) -> usize
+    requires { ⌜ (1 ≤ right) × (right ≤ 344) ⌝ }
+    ensures { λ r. ⌜ r ≤ right + 1 ⌝ }
+{
+    match sign % 10 {
+        0 => right - 1,
+        2 => right + 1,
+        _ => right,
+    }
+}
 
 pub(crate) fn small(s: &[u8]) -> u32 {
     (digits::number(s) % 4294967296) as u32
@@ -73,27 +88,6 @@ pub(crate) fn fill(list: &mut [u32; 40], s: &[u8]) -> usize {
         i += 1;
     }
     i
-}
-
-// Every byte is 255, which is no code and stands in no reply.
-pub(crate) fn clear(out: &mut [u8]) {
-    let mut i = 0;
-    while i < out.len() {
-        out[i] = 255;
-        i += 1;
-    }
-}
-
-// 1 where every byte is 255.
-pub(crate) fn is_clear(out: &[u8]) -> u64 {
-    let mut i = 0;
-    while i < out.len() {
-        if out[i] != 255 {
-            return 0;
-        }
-        i += 1;
-    }
-    1
 }
 
 // Bytes are put into the text from a place on, if there is room: the place after them.

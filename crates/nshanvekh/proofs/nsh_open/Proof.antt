@@ -6,7 +6,7 @@ use Rattle.nshanvekh.proofs.nsh_open.Statement.{statement}
 use Rattle.nshanvekh.proofs.nsh_open.Tie as tie
 
 returns : tie.Need-returns
-returns c = open-wrong (c .before .before .before .args .day) (c .before .before .before .args .table .now) (c .before .before .before .args .session .now) (c .if1 .taken)
+returns c = open-wrong (c .if1 .taken)
 
 open-requires : tie.Need-open-requires
 open-requires c κs = search needs
@@ -21,7 +21,7 @@ same-length : tie.Need-same-length
 same-length c = search needs
 
 returns-2 : tie.Need-returns-2
-returns-2 c = open-right (c .before .before .before .before .before .before .before .before .before .before .args .day) (c .before .before .before .before .before .before .before .before .before .before .args .table .now) (c .before .before .before .before .before .before .before .before .before .before .args .session .now) (c .before .before .before .before .before .before .before .if1 .left) (c .before .before .before .before .before .before .«open» .result) (c .before .before .before .before .before .before .«open» .ensures) (c .before .before .before .pack .ensures) (c .number-of .ensures)
+returns-2 c = open-right (c .before .before .before .before .before .before .before .if1 .left) (c .before .before .before .before .before .before .«open» .ensures) (c .before .before .before .pack .ensures) (c .number-of .ensures)
 
 pub nsh-open-spec : {M : Type 1} → statement M
 nsh-open-spec =

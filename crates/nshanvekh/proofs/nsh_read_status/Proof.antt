@@ -1,13 +1,12 @@
 -- `nshanvekh::nsh_read_status` meets its contract: a wrong size, else what reading tells.
 -- Assumes nothing.
-use Rattle.nshanvekh.proofs.Messages.{numbers-sized, id-sized, status-wrong, status-told}
-use borrow.Author.Tests.{not-true, not-false}
+use Rattle.nshanvekh.proofs.Messages.{sizes, status-wrong, status-told}
 use borrow.Author.Needs.{needs}
 use Rattle.nshanvekh.proofs.nsh_read_status.Statement.{statement}
 use Rattle.nshanvekh.proofs.nsh_read_status.Tie as tie
 
 returns : tie.Need-returns
-returns c = status-wrong (c .before .before .before .before .before .args .bytes .now) (c .before .before .before .before .before .args .table .now) (c .before .before .before .before .before .args .numbers .now) (c .before .before .before .before .before .args .id .now) (not-true _ (c .if1 .taken))
+returns c = status-wrong (c .if1 .taken)
 
 read-status-requires : tie.Need-read-status-requires
 read-status-requires c κs = search needs
@@ -16,7 +15,7 @@ number-of-requires : tie.Need-number-of-requires
 number-of-requires c κs = search needs
 
 tell-status-requires : tie.Need-tell-status-requires
-tell-status-requires c κs = (numbers-sized (c .before .before .before .before .before .before .before .before .before .before .before .before .before .args .numbers .now) 10 (c .before .before .before .before .before .before .before .before .before .before .before .before .before .args .id .now) (not-false _ (c .before .before .before .before .before .before .before .before .if1 .left)), id-sized (c .before .before .before .before .before .before .before .before .before .before .before .before .before .args .numbers .now) 10 (c .before .before .before .before .before .before .before .before .before .before .before .before .before .args .id .now) (not-false _ (c .before .before .before .before .before .before .before .before .if1 .left)))
+tell-status-requires c κs = sizes (c .before .before .before .before .before .before .before .before .before .before .before .before .before .args .numbers .now) 10 (c .before .before .before .before .before .before .before .before .before .before .before .before .before .args .id .now) (c .before .before .before .before .before .before .before .before .if1 .left)
 
 same-length : tie.Need-same-length
 same-length c = search needs
@@ -28,7 +27,7 @@ same-length-3 : tie.Need-same-length-3
 same-length-3 c = search needs
 
 returns-2 : tie.Need-returns-2
-returns-2 c = status-told (c .before .before .before .before .before .before .before .before .before .before .before .before .before .before .before .before .before .before .args .bytes .now) (c .before .before .before .before .before .before .before .before .before .before .before .before .before .before .before .before .before .before .args .table .now) (c .before .before .before .before .before .before .before .before .before .before .before .before .before .before .before .before .before .before .args .numbers .now) (c .before .before .before .before .before .before .before .before .before .before .before .before .before .before .before .before .before .before .args .id .now) (not-false _ (c .before .before .before .before .before .before .before .before .before .before .before .before .before .if1 .left)) (c .before .before .before .before .before .before .before .before .before .before .before .read-status .result) (c .before .before .before .before .before .before .before .before .before .before .before .read-status .ensures) (c .before .before .before .before .before .before .before .number-of .result) (c .before .before .before .before .before .before .before .number-of .ensures) (c .before .before .before .before .tell-status .ensures)
+returns-2 c = status-told (c .before .before .before .before .before .before .before .before .before .before .before .before .before .if1 .left) (c .before .before .before .before .before .before .before .before .before .before .before .read-status .ensures) (c .before .before .before .before .before .before .before .number-of .ensures) (c .before .before .before .before .tell-status .ensures)
 
 pub nsh-read-status-spec : {M : Type 1} → statement M
 nsh-read-status-spec =

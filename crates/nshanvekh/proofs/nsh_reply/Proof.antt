@@ -6,7 +6,7 @@ use Rattle.nshanvekh.proofs.nsh_reply.Statement.{statement}
 use Rattle.nshanvekh.proofs.nsh_reply.Tie as tie
 
 returns : tie.Need-returns
-returns c = reply-wrong (c .before .before .before .before .before .before .args .message .now) (c .before .before .before .before .before .before .args .day) (c .before .before .before .before .before .before .args .banks .now) (c .before .before .before .before .before .before .args .known .now) (c .before .before .before .before .before .before .args .duplicate) (c .before .before .before .before .before .before .args .number) (c .before .before .before .before .before .before .args .time) (c .before .before .before .before .before .before .args .out .now) (c .before .before .before .before .before .before .args .numbers .now) (c .if1 .taken)
+returns c = reply-wrong (c .if1 .taken)
 
 write-requires : tie.Need-write-requires
 write-requires c κs = search needs
@@ -21,7 +21,7 @@ same-length-2 : tie.Need-same-length-2
 same-length-2 c = search needs
 
 returns-2 : tie.Need-returns-2
-returns-2 c = reply-told (c .before .before .before .before .before .before .before .before .before .before .before .before .before .before .args .message .now) (c .before .before .before .before .before .before .before .before .before .before .before .before .before .before .args .day) (c .before .before .before .before .before .before .before .before .before .before .before .before .before .before .args .banks .now) (c .before .before .before .before .before .before .before .before .before .before .before .before .before .before .args .known .now) (c .before .before .before .before .before .before .before .before .before .before .before .before .before .before .args .duplicate) (c .before .before .before .before .before .before .before .before .before .before .before .before .before .before .args .number) (c .before .before .before .before .before .before .before .before .before .before .before .before .before .before .args .time) (c .before .before .before .before .before .before .before .before .before .before .before .before .before .before .args .out .now) (c .before .before .before .before .before .before .before .before .before .before .before .before .before .before .args .numbers .now) (c .before .before .before .before .before .before .before .before .if1 .left) (c .before .before .before .before .before .before .write .ensures) (c .before .before .tell-reply .ensures)
+returns-2 c = reply-told (c .before .before .before .before .before .before .before .before .if1 .left) (c .before .before .before .before .before .before .write .ensures) (c .before .before .tell-reply .ensures)
 
 pub nsh-reply-spec : {M : Type 1} → statement M
 nsh-reply-spec =

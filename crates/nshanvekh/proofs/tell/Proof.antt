@@ -8,7 +8,7 @@ use Rattle.nshanvekh.proofs.tell.Statement.{statement}
 use Rattle.nshanvekh.proofs.tell.Tie as tie
 
 returns : tie.Need-returns
-returns c = told-none (c .before .before .before .args .n) (c .before .before .before .args .numbers .now) (c .before .before .before .args .id .now) (c .before .before .before .args .k) (c .if1 .taken)
+returns c = told-none (c .if1 .taken)
 
 cast-numbers : tie.Need-cast-numbers
 cast-numbers c = search needs
@@ -44,7 +44,7 @@ same-length-2 : tie.Need-same-length-2
 same-length-2 c = search needs
 
 returns-2 : tie.Need-returns-2
-returns-2 c = told (c .before .before .before .before .before .before .before .before .before .before .before .before .args .n) (c .before .before .before .before .before .before .before .before .before .before .before .before .args .numbers .now) (c .before .before .before .before .before .before .before .before .before .before .before .before .args .id .now) (c .before .before .before .before .before .before .before .before .before .before .before .before .args .k) (c .before .before .before .before .before .before .before .before .before .if1 .left) (c .before .before .before .before .before .before .before .before .before .before .before .before .pre .0) (c .before .before .before .before .before .before .before .before .before .before .before .before .pre .1) (search needs) _ (c .before .before .put .ensures .1)
+returns-2 c = told (c .before .before .before .before .before .before .before .before .before .if1 .left) (c .before .before .before .before .before .before .before .before .before .before .before .before .pre .0) (c .before .before .before .before .before .before .before .before .before .before .before .before .pre .1) (search needs) (c .before .before .put .ensures .1)
 
 pub tell-spec : {M : Type 1} → statement M
 tell-spec =

@@ -27,7 +27,7 @@ same-length : tie.Need-same-length
 same-length c = search needs
 
 returns-2 : tie.Need-returns-2
-returns-2 c = reply-written (c .before .before .before .before .args .a) (c .before .before .before .before .args .numbers .now) (c .before .a2 .given .0 .0) (c .before .a2 .given .1) (c .before .before .before .before .pre)
+returns-2 c = reply-written (c .before .a2 .given .1) (c .before .before .before .before .pre)
 
 pub tell-reply-spec : {M : Type 1} → statement M
 tell-reply-spec =

@@ -13,7 +13,7 @@ id-at : (c : tie.Start) → length (c .args .s .id) ≡ 25
 id-at c = search needs
 
 returns : tie.Need-returns
-returns c = status-none (c .before .before .before .args .n) (c .before .before .before .args .numbers .now) (c .before .before .before .args .id .now) (c .before .before .before .args .s) (c .if1 .taken)
+returns c = status-none (c .if1 .taken)
 
 cast-numbers : tie.Need-cast-numbers
 cast-numbers c = search needs
@@ -73,7 +73,7 @@ same-length-2 : tie.Need-same-length-2
 same-length-2 c = search needs
 
 returns-2 : tie.Need-returns-2
-returns-2 c = status-all (c .before .before .before .before .before .before .before .before .before .before .before .before .before .before .before .before .args .n) (c .before .before .before .before .before .before .before .before .before .before .before .before .before .before .before .before .args .numbers .now) (c .before .before .before .before .before .before .before .before .before .before .before .before .before .before .before .before .args .id .now) (c .before .before .before .before .before .before .before .before .before .before .before .before .before .before .before .before .args .s) (c .before .before .before .before .before .before .before .before .before .before .before .before .before .if1 .left) (c .before .before .before .before .before .before .before .before .before .before .before .before .before .before .before .before .pre .0) (c .before .before .before .before .before .before .before .before .before .before .before .before .before .before .before .before .pre .1) (id-at (c .before .before .before .before .before .before .before .before .before .before .before .before .before .before .before .before)) _ (c .before .before .put .ensures .1)
+returns-2 c = status-all (c .before .before .before .before .before .before .before .before .before .before .before .before .before .if1 .left) (c .before .before .before .before .before .before .before .before .before .before .before .before .before .before .before .before .pre .0) (c .before .before .before .before .before .before .before .before .before .before .before .before .before .before .before .before .pre .1) (id-at (c .before .before .before .before .before .before .before .before .before .before .before .before .before .before .before .before)) (c .before .before .put .ensures .1)
 
 pub tell-status-spec : {M : Type 1} → statement M
 tell-status-spec =

@@ -1,6 +1,6 @@
 -- `packed::unpack` meets its contract: a session, or the closed one.
 -- Assumes nothing.
-use Rattle.packed.proofs.Fields.{packed, others}
+use Rattle.packed.proofs.Fields.{readable, packed, others}
 use mathlib.Core.Path.{sym, _∙_}
 use borrow.Author.Needs.{needs}
 use Rattle.packed.proofs.unpack.Statement.{statement}
@@ -10,7 +10,7 @@ is-packed-requires : tie.Need-is-packed-requires
 is-packed-requires c κs = search needs
 
 session-in-requires : tie.Need-session-in-requires
-session-in-requires c κs = sym (c .before .is-packed .ensures) ∙ c .if1 .taken
+session-in-requires c κs = readable (c .before .before .before .args .x .now) (sym (c .before .is-packed .ensures) ∙ c .if1 .taken)
 
 returns : tie.Need-returns
 returns c = packed (c .before .before .before .before .args .x .now) (c .before .before .is-packed .ensures) (c .before .if1 .taken) (c .session-in .ensures)

@@ -7,16 +7,16 @@ use Rattle.trial.proofs.lines.Statement.{statement}
 use Rattle.trial.proofs.lines.Tie as tie
 
 abbrev Inv-loop : tie.InvT-loop
-Inv-loop s base₀ text₀ g₀ at₀ base text g at = at ≤ length s + 1
+Inv-loop s base₀ session₀ g₀ at₀ base session g at = at ≤ length s + 1
 
 abbrev μ-loop : tie.MeasureT-loop
-μ-loop s base₀ text₀ g₀ at₀ base text g at = length s + 1 - at
+μ-loop s base₀ session₀ g₀ at₀ base session g at = length s + 1 - at
 
 loop-holds : tie.Need-loop-holds Inv-loop μ-loop
 loop-holds c = search needs
 
-line-end-requires : tie.Need-line-end-requires Inv-loop μ-loop
-line-end-requires c κs = search needs
+end-of-requires : tie.Need-end-of-requires Inv-loop μ-loop
+end-of-requires c κs = search needs
 
 line-requires : tie.Need-line-requires Inv-loop μ-loop
 line-requires c κs = search needs
@@ -40,7 +40,7 @@ lines-spec =
     Inv-loop
     μ-loop
     loop-holds
-    line-end-requires
+    end-of-requires
     line-requires
     add-at
     loop-less

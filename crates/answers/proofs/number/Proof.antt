@@ -1,10 +1,10 @@
--- `nshanvekh::single::number` meets its contract: each answer has its number.
+-- `answers::number` meets its contract: each answer has its number.
 -- Assumes nothing.
 use native.Mathlib.Omega.{arith}
-use Rattle.nshanvekh.specs.Single.{singleNumber}
+use Rattle.answers.specs.Single.{singleNumber}
 use borrow.Author.Needs.{needs}
-use Rattle.nshanvekh.proofs.single.number.Statement.{statement}
-use Rattle.nshanvekh.proofs.single.number.Tie as tie
+use Rattle.answers.proofs.number.Statement.{statement}
+use Rattle.answers.proofs.number.Tie as tie
 
 enum-told : tie.Need-enum-told
 enum-told c = search needs

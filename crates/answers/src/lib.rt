@@ -2,7 +2,7 @@
 ghost use mathlib.Core.Path.{_≡_};
 ghost use Prim.Native.Nat.{_+_, _*_, _≤_};
 ghost use Rattle.rules.specs.Answers.{kindNumber};
-ghost use Rattle.nshanvekh.specs.Single.{singleNumber};
+ghost use Rattle.answers.specs.Single.{singleNumber};
 use rules::finding::Kind;
 use rules::single::Answer;
 
@@ -35,7 +35,7 @@ fn named(field: u32, k: Kind) -> u32
 }
 
 // The number of an answer.
-pub(crate) fn number(a: Answer) -> u32
+pub fn number(a: Answer) -> u32
     ensures { λ r. ⌜ r ≡ singleNumber a ⌝ }
 {
     match a {

@@ -1,10 +1,10 @@
--- `trial::pieces::same_bytes` is safe and ends.
+-- `trial::same::same_bytes` is safe and ends.
 -- Assumes nothing.
 use Prim.Native.Nat.{_-_, _≤_}
 use lib.ListN.{length}
 use borrow.Author.Needs.{needs}
-use Rattle.trial.proofs.pieces.same_bytes.Statement.{statement}
-use Rattle.trial.proofs.pieces.same_bytes.Tie as tie
+use Rattle.trial.proofs.same.same_bytes.Statement.{statement}
+use Rattle.trial.proofs.same.same_bytes.Tie as tie
 
 abbrev Inv-loop : tie.InvT-loop
 Inv-loop a b i₀ i = i ≤ length a

@@ -1,0 +1,73 @@
+"""A session as a host in C keeps it, by definition.
+
+Written from docs/SESSION.md and include/nshanvekh.h alone, not from the code that
+is held to them. A session is worked out anew from all that it has read: nothing
+here goes from piece to piece. E is a number, the bank list is a list of numbers;
+the message, the known list and the session are bytes.
+"""
+
+import message
+import rules
+from message import LONGEST_TABLE
+
+SIZE = 344
+MOST_AMOUNT = 9999999999  # 01 "Records": ten digits
+CLOSED = bytes([1, 5]).ljust(SIZE, b"\0")  # phase 5; only that it is refused counts here
+
+
+def record_size(phase, begun):
+    """The length, with its ending, of the record that begins so (01 "Records", cutting)."""
+    if phase == 0:
+        return rules.HEAD + 2
+    return rules.FOOT + 2 if begun[:2] == b"03" else rules.ITEM + 2
+
+
+def phase_of(head, items, foot, begun, room):
+    """0 in the head, 1 after it, 2 the foot is read, 3 broken, 4 overflow."""
+    if len(items) > room:
+        return 4
+    if foot is not None:
+        return 2
+    phase = 0 if head is None else 1
+    return phase if len(begun) < record_size(phase, begun) else 3
+
+
+def of(read, room, day, banks, known):
+    """The bytes of the session that has read these bytes, for a table of so many."""
+    head, items, foot = message.cut(read)
+    begun = read if head is None else read[176 + 251 * len(items) :]
+    judged = [rules.judge_item(item, k, banks) for k, item in enumerate(items[:room], 1)]
+    accepted, accepted_sum, refused, refused_sum, zeros = message.numbers(judged)
+    phase = phase_of(head, items, foot, begun, room)
+    found = [rules.judge_head(head, day, banks, known)] if head is not None else []
+    found += judged
+    letter = any(record[0] for record in found)
+    codes = [record[1] for record in found]
+    if phase == 2:
+        codes.append(rules.judge_foot(foot, len(items), accepted_sum + refused_sum))
+    held = begun if phase < 2 else b""
+    numbers = (day, room, accepted, accepted_sum, refused, refused_sum, zeros, len(held))
+    marks = bytes([1, phase, letter, next((code for code in codes if code), 0)])
+    fields = b"".join(number.to_bytes(8, "little") for number in numbers)
+    return marks + fields + message.identifier(head) + held.ljust(251, b"\0")
+
+
+def is_open(session):
+    """The bytes are those of a session, open, with each number in its range."""
+    mark, phase, letter, code = session[:4]
+    numbers = [int.from_bytes(session[place : place + 8], "little") for place in range(4, 68, 8)]
+    day, room, accepted, accepted_sum, refused, refused_sum, zeros, fill = numbers
+    begun = session[93 : 93 + fill]
+    return (
+        mark == 1
+        and phase <= 4
+        and letter <= 1
+        and code <= 99
+        and rules.clearing_day(day) is not None
+        and room <= LONGEST_TABLE
+        and accepted + refused <= room
+        and accepted_sum <= MOST_AMOUNT * accepted
+        and refused_sum <= MOST_AMOUNT * refused
+        and zeros <= accepted
+        and (fill < record_size(phase, begun) if phase <= 1 else fill == 0)
+    )
