@@ -1,0 +1,191 @@
+//! Times of the proved library beside a judge in plain Rust, on the same messages.
+
+mod agreement;
+mod messages;
+mod plain;
+mod proved;
+
+use messages::{given, good, Given};
+use plain::{Lists, Particulars, Session};
+use std::hint::black_box;
+use std::time::{Duration, Instant};
+
+const ROUNDS: usize = 15;
+const PARTICULARS: Particulars = Particulars {
+    duplicate: b'0',
+    number: 7,
+    time: 83000,
+};
+
+/// What is done with a message.
+#[derive(Clone, Copy, PartialEq)]
+enum Task {
+    Whole,
+    Pieces(usize),
+    Reply,
+}
+
+struct Row<'a> {
+    name: &'static str,
+    given: &'a Given,
+    message: &'a [u8],
+    task: Task,
+    proved: Duration,
+    plain: Duration,
+}
+
+fn row<'a>(name: &'static str, given: &'a Given, message: &'a [u8], task: Task) -> Row<'a> {
+    let (proved, plain) = (Duration::MAX, Duration::MAX);
+    Row {
+        name,
+        given,
+        message,
+        task,
+        proved,
+        plain,
+    }
+}
+
+/// The least time of a call, of as many as 20 milliseconds take.
+fn least(mut call: impl FnMut()) -> Duration {
+    let (start, mut best) = (Instant::now(), Duration::MAX);
+    while start.elapsed() < Duration::from_millis(20) {
+        let before = Instant::now();
+        call();
+        best = best.min(before.elapsed());
+    }
+    best
+}
+
+impl Row<'_> {
+    fn measure(&mut self, table: &mut [u8], out: &mut [u8]) {
+        let (given, message, p) = (self.given, black_box(self.message), &PARTICULARS);
+        let lists = Lists {
+            banks: &given.banks,
+            known: &given.known,
+        };
+        let (proved, plain) = match self.task {
+            Task::Whole => (
+                least(|| {
+                    black_box(proved::judge(given, table, message));
+                }),
+                least(|| {
+                    black_box(plain::judge(given.day, lists, table, message)).unwrap();
+                }),
+            ),
+            Task::Pieces(size) => (
+                least(|| {
+                    black_box(proved::judge_by(size, given, table, message));
+                }),
+                least(|| {
+                    let mut session = Session::open(given.day, table).unwrap();
+                    for piece in message.chunks(size) {
+                        session.take(piece, lists, table).unwrap();
+                    }
+                    black_box(session.close()).unwrap();
+                }),
+            ),
+            Task::Reply => (
+                least(|| {
+                    black_box(proved::reply(given, message, p.duplicate, p.number, p.time, out));
+                }),
+                least(|| {
+                    black_box(plain::reply(given.day, lists, message, p, out)).unwrap();
+                }),
+            ),
+        };
+        self.proved = self.proved.min(proved);
+        self.plain = self.plain.min(plain);
+    }
+}
+
+/// The first number as a part of the second.
+fn of(a: Duration, b: Duration) -> f64 {
+    a.as_secs_f64() / b.as_secs_f64()
+}
+
+fn print(rows: &[Row]) {
+    println!(
+        "{:38} {:>10} {:>10} {:>13} {:>16} {:>15}",
+        "", "proved", "plain", "proved/plain", "proved, of whole", "plain, of whole"
+    );
+    let mut whole = &rows[0];
+    for row in rows {
+        if row.task == Task::Whole {
+            whole = row;
+        }
+        print!(
+            "{:38} {:7.3} ms {:7.3} ms {:13.2}",
+            row.name,
+            row.proved.as_secs_f64() * 1e3,
+            row.plain.as_secs_f64() * 1e3,
+            of(row.proved, row.plain),
+        );
+        if row.task == Task::Whole {
+            println!();
+        } else {
+            println!(
+                " {:16.2} {:15.2}",
+                of(row.proved, whole.proved),
+                of(row.plain, whole.plain)
+            );
+        }
+    }
+}
+
+/// What was wanted of the figures, and whether it is so.
+fn print_wanted(whole: &Row, pieces: &[Row], thousand: &Row) {
+    let wanted = |name: &str, value: f64, least: f64, most: f64| {
+        let said = if value >= least && value <= most {
+            "met"
+        } else {
+            "MISSED"
+        };
+        println!("{name:60} {value:6.3}   wanted {most:5.2}   {said}");
+    };
+    println!();
+    wanted("whole, of plain Rust's time", of(whole.proved, whole.plain), 0.0, 0.8);
+    for (row, most) in pieces.iter().zip([1.05, 1.3, 2.5]) {
+        let name = format!("{}, of whole", row.name.trim());
+        wanted(&name, of(row.proved, whole.proved), 0.0, most);
+    }
+    let item = of(whole.proved, thousand.proved) / 10.0;
+    wanted("cost an item, of 10,000 items against of 1,000", item, 0.95, 1.05);
+}
+
+fn main() {
+    let (few, many) = (given(10), given(2700));
+    let plain = good(&few, 10_000, 0);
+    let accented = good(&few, 10_000, 5);
+    let listed = good(&many, 10_000, 0);
+    let thousand = good(&few, 1_000, 0);
+    agreement::check(&[(&few, &plain), (&few, &accented), (&many, &listed), (&few, &thousand)]);
+
+    let mut rows = vec![
+        row("whole, 10 banks", &few, &plain, Task::Whole),
+        row("  pieces of 64 KiB", &few, &plain, Task::Pieces(65_536)),
+        row("  pieces of 1,000 bytes", &few, &plain, Task::Pieces(1_000)),
+        row("  pieces of 100 bytes", &few, &plain, Task::Pieces(100)),
+        row("  pieces of 1 byte", &few, &plain, Task::Pieces(1)),
+        row("  reply of 10,000 references", &few, &plain, Task::Reply),
+        row("whole, 5 % accented names", &few, &accented, Task::Whole),
+        row("whole, 2,700 banks", &many, &listed, Task::Whole),
+        row("  pieces of 64 KiB", &many, &listed, Task::Pieces(65_536)),
+        row("  pieces of 1,000 bytes", &many, &listed, Task::Pieces(1_000)),
+        row("  pieces of 100 bytes", &many, &listed, Task::Pieces(100)),
+        row("whole, 1,000 items", &few, &thousand, Task::Whole),
+    ];
+    let (mut table, mut out) = (vec![0; 10_000], vec![0; 104 + 65 * 10_000]);
+    for _ in 0..ROUNDS {
+        for row in &mut rows {
+            row.measure(&mut table, &mut out);
+        }
+    }
+    println!("10,000 items, {} bytes; the best of {ROUNDS} rounds", plain.len());
+    println!(
+        "load: {}",
+        std::fs::read_to_string("/proc/loadavg").unwrap_or_default().trim()
+    );
+    print(&rows);
+    print_wanted(&rows[0], &rows[1..4], &rows[11]);
+}

@@ -1,0 +1,153 @@
+//! Good messages of any number of items, with the lists that they are judged by; and messages with bytes changed.
+
+use std::collections::BTreeSet;
+
+pub const DAY: u32 = 20200310;
+
+/// The clearing day and the lists.
+pub struct Given {
+    pub day: u32,
+    pub banks: Vec<u32>,
+    pub known: Vec<u8>,
+}
+
+/// Numbers that look random and are the same in each run.
+pub struct Dice(u64);
+
+impl Dice {
+    pub fn new(seed: u64) -> Dice {
+        Dice(seed.wrapping_mul(0x9e37_79b9_7f4a_7c15) | 1)
+    }
+
+    pub fn below(&mut self, n: u64) -> u64 {
+        self.0 ^= self.0 << 13;
+        self.0 ^= self.0 >> 7;
+        self.0 ^= self.0 << 17;
+        (self.0 >> 11) % n
+    }
+
+    fn pick<'a, T: ?Sized>(&mut self, of: &[&'a T]) -> &'a T {
+        of[self.below(of.len() as u64) as usize]
+    }
+}
+
+/// So many digits, the last one the check digit of annex 6.
+fn checked(dice: &mut Dice, digits: usize) -> String {
+    let mut text: String = (1..digits).map(|_| char::from(b'0' + dice.below(10) as u8)).collect();
+    let weights = [9, 7, 3, 1].into_iter().cycle();
+    let sum: u32 = text
+        .bytes()
+        .zip(weights)
+        .map(|(b, weight)| u32::from(b - b'0') * weight)
+        .sum();
+    text.push(char::from(b'0' + ((10 - sum % 10) % 10) as u8));
+    text
+}
+
+pub fn given(banks: usize) -> Given {
+    let mut dice = Dice::new(banks as u64 + 1);
+    let mut codes = BTreeSet::new();
+    while codes.len() < banks {
+        codes.insert(checked(&mut dice, 8).parse().unwrap());
+    }
+    let known = (0..100)
+        .map(|k| format!("A12345676T00120200309{k:04}"))
+        .collect::<String>();
+    Given {
+        day: DAY,
+        banks: codes.into_iter().collect(),
+        known: known.into_bytes(),
+    }
+}
+
+const NAMES: [&[u8]; 6] = [
+    b"Kovacs Anna",
+    b"Nagy Janos",
+    b"Szabo Istvanne",
+    b"Toth Peter",
+    b"Horvath Katalin Maria",
+    b"Kiss Ede",
+];
+/// Names with letters of code page 852.
+const ACCENTED: [&[u8]; 4] = [
+    b"Sz\xfbcs B\x82la",
+    b"Kov\xa0cs \x90va",
+    b"T\xa2th G\x94rgy",
+    b"F\x81l\x94p \xb5kos",
+];
+const STREETS: [&[u8]; 4] = [
+    b"1011 Budapest, Fo u. 1.",
+    b"4024 Debrecen, Piac u. 20.",
+    b"6720 Szeged, Kossuth ter 3/b",
+    b"9021 Gyor, Baross ut 14.",
+];
+
+/// The text at the front of a field of spaces.
+fn put(out: &mut Vec<u8>, text: &[u8], width: usize) {
+    out.extend_from_slice(text);
+    out.resize(out.len() + width - text.len(), b' ');
+}
+
+/// An account of sixteen digits, or one time in three of eight digits and eight spaces.
+fn account(dice: &mut Dice) -> String {
+    let digits = if dice.below(3) == 0 { 8 } else { 16 };
+    checked(dice, digits)
+}
+
+/// A good message: code 00, every item accepted. Of a hundred items so many have accented letters in their names.
+pub fn good(given: &Given, items: usize, accented: u64) -> Vec<u8> {
+    let mut dice = Dice::new(items as u64);
+    let mut out = Vec::with_capacity(204 + 251 * items);
+    let mut sum = 0;
+    out.extend_from_slice(format!("01ATUTAL0A12345676T001{DAY}0001{:08}", given.banks[0]).as_bytes());
+    put(&mut out, account(&mut dice).as_bytes(), 16);
+    out.extend_from_slice(format!("{DAY}MUN").as_bytes());
+    put(&mut out, b"Minta Gepgyar Kft.", 35);
+    put(&mut out, b"marciusi munkaber", 70);
+    out.extend_from_slice(b"\r\n");
+    for place in 1..=items {
+        let amount = 1 + dice.below(900_000);
+        let bank = given.banks[dice.below(given.banks.len() as u64) as usize];
+        let name = if dice.below(100) < accented {
+            dice.pick(&ACCENTED)
+        } else {
+            dice.pick(&NAMES)
+        };
+        sum += amount;
+        out.extend_from_slice(format!("02{place:06}20200311{amount:010}{bank:08}").as_bytes());
+        put(&mut out, account(&mut dice).as_bytes(), 16);
+        put(&mut out, format!("DOLGOZO-{place:05}").as_bytes(), 24);
+        put(&mut out, name, 35);
+        put(&mut out, dice.pick(&STREETS), 35);
+        put(&mut out, name, 35);
+        put(&mut out, b"munkaber 2020. februar", 70);
+        out.extend_from_slice(b"\r\n");
+    }
+    out.extend_from_slice(format!("03{items:06}{sum:016}\r\n").as_bytes());
+    out
+}
+
+/// The message with a few bytes changed, or with bytes lost or added at its end.
+pub fn damaged(message: &[u8], dice: &mut Dice) -> Vec<u8> {
+    let mut out = message.to_vec();
+    for _ in 0..dice.below(3) {
+        let at = dice.below(out.len() as u64) as usize;
+        out[at] = match dice.below(4) {
+            0 => dice.below(256) as u8,
+            1 => b'0' + dice.below(10) as u8,
+            2 => b' ',
+            _ => *dice.pick(&[&0x81, &0xa0, &0x7f, &b'@', &b'3', &b'A', &b'\r']),
+        };
+    }
+    match dice.below(12) {
+        0 => out.truncate(dice.below(out.len() as u64) as usize),
+        1 => out.push(b' '),
+        2 => {
+            // A field at random is filled with one byte.
+            let at = dice.below(out.len() as u64 - 35) as usize;
+            out[at..at + 35].fill(*dice.pick(&[&b' ', &b'0']));
+        }
+        _ => {}
+    }
+    out
+}

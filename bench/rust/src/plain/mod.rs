@@ -1,0 +1,43 @@
+//! The judge in plain Rust: the same rules, written as one writes Rust, without the proved library's tricks.
+
+mod dates;
+mod fields;
+mod records;
+mod reply;
+mod session;
+
+pub use reply::{reply, Particulars};
+pub use session::{judge, Closing, Session};
+
+/// What the judge is lent beside the message: the bank list, ascending, and the known list, 25 bytes each.
+#[derive(Clone, Copy)]
+pub struct Lists<'a> {
+    pub banks: &'a [u32],
+    pub known: &'a [u8],
+}
+
+impl Lists<'_> {
+    fn check(&self) -> Result<(), Refusal> {
+        let ascends = self.banks.windows(2).all(|pair| pair[0] < pair[1]);
+        if !ascends || self.banks.last().is_some_and(|&last| last > 99_999_999) {
+            return Err(Refusal::BankList);
+        }
+        if self.known.len() % 25 != 0 {
+            return Err(Refusal::KnownList);
+        }
+        Ok(())
+    }
+}
+
+/// Why a call is refused, by the numbers of 01.
+#[derive(Clone, Copy, Debug, PartialEq, Eq)]
+pub enum Refusal {
+    NotADay = 1,
+    BankList = 2,
+    KnownList = 3,
+    Table = 4,
+    Overflow = 6,
+    Address = 7,
+    Particulars = 8,
+    Room = 9,
+}

@@ -1,0 +1,176 @@
+//! The proved library, by its C entries (include/nshanvekh.h). A slice is a pointer and a length.
+
+use crate::messages::Given;
+
+const SESSION_BYTES: usize = 344;
+
+extern "C" {
+    fn nsh_open(day: u32, table: *const u8, table_len: usize, session: *mut u8, session_len: usize) -> u32;
+
+    fn nsh_piece(
+        session: *mut u8,
+        session_len: usize,
+        bytes: *const u8,
+        bytes_len: usize,
+        banks: *const u32,
+        banks_len: usize,
+        known: *const u8,
+        known_len: usize,
+        table: *mut u8,
+        table_len: usize,
+    ) -> u32;
+
+    fn nsh_close(
+        session: *mut u8,
+        session_len: usize,
+        numbers: *mut u64,
+        numbers_len: usize,
+        id: *mut u8,
+        id_len: usize,
+    ) -> u32;
+
+    fn nsh_judge(
+        message: *const u8,
+        message_len: usize,
+        day: u32,
+        banks: *const u32,
+        banks_len: usize,
+        known: *const u8,
+        known_len: usize,
+        table: *mut u8,
+        table_len: usize,
+        numbers: *mut u64,
+        numbers_len: usize,
+        id: *mut u8,
+        id_len: usize,
+    ) -> u32;
+
+    fn nsh_reply(
+        message: *const u8,
+        message_len: usize,
+        day: u32,
+        banks: *const u32,
+        banks_len: usize,
+        known: *const u8,
+        known_len: usize,
+        duplicate: u8,
+        number: u32,
+        time: u32,
+        out: *mut u8,
+        out_len: usize,
+        numbers: *mut u64,
+        numbers_len: usize,
+    ) -> u32;
+}
+
+/// The refusal's number or 0, then the code and the five numbers.
+pub fn judge(given: &Given, table: &mut [u8], message: &[u8]) -> (u32, [u64; 6]) {
+    let (mut numbers, mut id) = ([0; 6], [0; 25]);
+    // SAFETY: each pointer and length is of a slice that lives through the call, and the lent ones are apart.
+    let refusal = unsafe {
+        nsh_judge(
+            message.as_ptr(),
+            message.len(),
+            given.day,
+            given.banks.as_ptr(),
+            given.banks.len(),
+            given.known.as_ptr(),
+            given.known.len(),
+            table.as_mut_ptr(),
+            table.len(),
+            numbers.as_mut_ptr(),
+            numbers.len(),
+            id.as_mut_ptr(),
+            id.len(),
+        )
+    };
+    (refusal, numbers)
+}
+
+/// A session that the library keeps as bytes.
+struct Session([u8; SESSION_BYTES]);
+
+impl Session {
+    fn open(day: u32, table: &[u8]) -> Result<Session, u32> {
+        let mut bytes = [0; SESSION_BYTES];
+        // SAFETY: as in `judge`.
+        match unsafe { nsh_open(day, table.as_ptr(), table.len(), bytes.as_mut_ptr(), bytes.len()) } {
+            0 => Ok(Session(bytes)),
+            refusal => Err(refusal),
+        }
+    }
+
+    fn take(&mut self, piece: &[u8], given: &Given, table: &mut [u8]) -> u32 {
+        // SAFETY: as in `judge`.
+        unsafe {
+            nsh_piece(
+                self.0.as_mut_ptr(),
+                self.0.len(),
+                piece.as_ptr(),
+                piece.len(),
+                given.banks.as_ptr(),
+                given.banks.len(),
+                given.known.as_ptr(),
+                given.known.len(),
+                table.as_mut_ptr(),
+                table.len(),
+            )
+        }
+    }
+
+    fn close(&mut self, numbers: &mut [u64; 6]) -> u32 {
+        let mut id = [0; 25];
+        // SAFETY: as in `judge`.
+        unsafe {
+            nsh_close(
+                self.0.as_mut_ptr(),
+                self.0.len(),
+                numbers.as_mut_ptr(),
+                numbers.len(),
+                id.as_mut_ptr(),
+                id.len(),
+            )
+        }
+    }
+}
+
+/// The same, by pieces of so many bytes, a call for each.
+pub fn judge_by(size: usize, given: &Given, table: &mut [u8], message: &[u8]) -> (u32, [u64; 6]) {
+    let mut numbers = [0; 6];
+    let mut session = match Session::open(given.day, table) {
+        Ok(session) => session,
+        Err(refusal) => return (refusal, numbers),
+    };
+    for piece in message.chunks(size) {
+        let refusal = session.take(piece, given, table);
+        if refusal != 0 {
+            return (refusal, numbers);
+        }
+    }
+    (session.close(&mut numbers), numbers)
+}
+
+/// The refusal's number or 0, and the reply's length.
+pub fn reply(given: &Given, message: &[u8], duplicate: u8, number: u32, time: u32, out: &mut [u8]) -> (u32, u64) {
+    let mut length = [0];
+    // SAFETY: as in `judge`.
+    let refusal = unsafe {
+        nsh_reply(
+            message.as_ptr(),
+            message.len(),
+            given.day,
+            given.banks.as_ptr(),
+            given.banks.len(),
+            given.known.as_ptr(),
+            given.known.len(),
+            duplicate,
+            number,
+            time,
+            out.as_mut_ptr(),
+            out.len(),
+            length.as_mut_ptr(),
+            length.len(),
+        )
+    };
+    (refusal, length[0])
+}
