@@ -65,7 +65,7 @@ bytesOf s =
 unfoldable pub isPacked : List ℕ → Bool
 isPacked x = eqb (length x) 344 && (eqb (getD x 0 0) 1 && (leb (getD x 2 0) 1 && leb (valueAt 4 x) 4294967295))
 
--- the session that such bytes stand for
+-- the tally and the session that such bytes stand for
 unfoldable pub tallyIn : List ℕ → Tally
 tallyIn x =
     record {
