@@ -41,7 +41,7 @@ extern "C" {
 #define NSH_PARTICULARS 8  /* duplicate code not '0' or '@', number over 9999, or time not 000000 to 235959 */
 #define NSH_ROOM 9         /* the output is shorter than the reply, or the table than the references */
 #define NSH_MALFORMED 10   /* the bytes aren't a STATUS message; a single record isn't 174 or 249 bytes */
-#define NSH_SIZE 11        /* a session, numbers or id buffer has another size than above */
+#define NSH_SIZE 99        /* a session, numbers or id buffer has another size than above */
 
 /* What the calls are given:
    day     the clearing day as a number, yyyymmdd
@@ -49,22 +49,22 @@ extern "C" {
    known   the identifiers already seen, 25 bytes each, end to end
    table   the code table: the k-th item's code goes to byte k as a number, 0 where the item is accepted; other bytes stay */
 
-/* A session is opened: refusals 11, 1, 4. Only the table's length counts here. The session is written over the whole buffer; after
-   refusals 1 and 4 the buffer holds a closed session, which each call refuses with 5. After 11 it is as it was. */
+/* A session is opened: refusals 99, 1, 4. Only the table's length counts here. The session is written over the whole buffer; after
+   refusals 1 and 4 the buffer holds a closed session, which each call refuses with 5. After 99 it is as it was. */
 uint32_t nsh_open(uint32_t day, const uint8_t *table, size_t table_len, uint8_t *session, size_t session_len);
 
-/* The next piece of the message, of any length: refusals 11, 5, 2, 3, 4. The buffer then holds the session to use next, and the table
+/* The next piece of the message, of any length: refusals 99, 5, 2, 3, 4. The buffer then holds the session to use next, and the table
    the codes of the items that were completed. The table is as long as at opening; the same lists come with each piece. */
 uint32_t nsh_piece(uint8_t *session, size_t session_len, const uint8_t *bytes, size_t bytes_len, const uint32_t *banks, size_t banks_len,
                    const uint8_t *known, size_t known_len, uint8_t *table, size_t table_len);
 
-/* The message is over: refusals 11, 5, 6. numbers: message code, accepted count, accepted sum, refused count, refused sum, zero watch
+/* The message is over: refusals 99, 5, 6. numbers: message code, accepted count, accepted sum, refused count, refused sum, zero watch
    (accepted items whose account is all zeros); with a code other than 0 the other five are 0. id: the message's positions 10-34, spaces
    unless a head with its right ending was read. The buffer then holds a closed session. 6 closes the session too, and leaves numbers
    and id as they were. */
 uint32_t nsh_close(uint8_t *session, size_t session_len, uint64_t *numbers, size_t numbers_len, uint8_t *id, size_t id_len);
 
-/* A whole message at once: refusals 11, 1, 4, 2, 3, 6. numbers and id as in nsh_close. With 6 the codes of the items that had a byte
+/* A whole message at once: refusals 99, 1, 4, 2, 3, 6. numbers and id as in nsh_close. With 6 the codes of the items that had a byte
    are in the table; numbers and id are as they were. */
 uint32_t nsh_judge(const uint8_t *message, size_t message_len, uint32_t day, const uint32_t *banks, size_t banks_len, const uint8_t *known,
                    size_t known_len, uint8_t *table, size_t table_len, uint64_t *numbers, size_t numbers_len, uint8_t *id, size_t id_len);
@@ -109,14 +109,14 @@ uint32_t nsh_single(const uint8_t *record, size_t record_len, uint32_t day, cons
 #define NSH_KIND_OUT_OF_ORDER 11
 #define NSH_KIND_OTHER 12
 
-/* The STATUS reply to a whole message goes to the front of out: refusals 11, 1, 2, 3, 6, 7, 8, 9. numbers[0] is its length, 104 bytes
+/* The STATUS reply to a whole message goes to the front of out: refusals 99, 1, 2, 3, 6, 7, 8, 9. numbers[0] is its length, 104 bytes
    or 104 + 65 for each item; bytes of out beyond it stay. duplicate is '0' or '@', number the reply's, time hhmmss. The call keeps
    10,000 bytes on the stack. */
 uint32_t nsh_reply(const uint8_t *message, size_t message_len, uint32_t day, const uint32_t *banks, size_t banks_len, const uint8_t *known,
                    size_t known_len, uint8_t duplicate, uint32_t number, uint32_t time, uint8_t *out, size_t out_len, uint64_t *numbers,
                    size_t numbers_len);
 
-/* A STATUS message is read: refusals 11, 10, 9. The k-th reference's code goes to byte k of the table, which may have any length of at
+/* A STATUS message is read: refusals 99, 10, 9. The k-th reference's code goes to byte k of the table, which may have any length of at
    least the references. numbers: duplicate code (a byte), date, number, time, code, accepted count, accepted sum, refused count,
    refused sum, references. id: positions 10-34. */
 uint32_t nsh_read_status(const uint8_t *bytes, size_t bytes_len, uint8_t *table, size_t table_len, uint64_t *numbers, size_t numbers_len,

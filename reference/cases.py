@@ -5,10 +5,20 @@
 Prints the script that trial.py describes, the same each time: chance comes from
 a seed. Values and places are from document 01, docs/CODES.md and, for a session's
 bytes, docs/SESSION.md. Each case changes a base text a little: a good message of 1
-to 5 items, a good head or item, or a right STATUS.
+to 5 items, a good head or item, or a right STATUS. The file `written` beside this one
+follows, cases written by hand; there the base text is a message of one item in
+
+    h   the line s of its head, and the line j of the message, both with these changes
+    i   the same of its item
+
+and any message of up to 9,999 bytes in
+
+    u   five digits code table's length: the lines of a session that takes the text
+        after pieces that are refused
 """
 
 import datetime
+import pathlib
 import signal
 import sys
 
@@ -20,8 +30,8 @@ import status
 E = 20200310
 BANKS = (1203457, 12345676, 16000009, 16000010, 44102036, 61000009, 99001203)
 KNOWN = (b"A12345676T001202003010002", b"5990000000009202003010007")
-GIVEN = E, list(BANKS), b"".join(KNOWN)
-PARTICULARS = b"0 0000000007 0000083000 1000"
+GIVEN = E, BANKS, b"".join(KNOWN)
+PARTICULARS = b"0 0000000007 0000083000 001000"
 
 
 # Chance
@@ -226,6 +236,11 @@ def cuts(n):
     return sorted([edge] * chance.under(3) + [*near, *anywhere])
 
 
+def lengths(places):
+    """The lengths of the pieces that these cuts make: that of the last first, which is what is left."""
+    return b"0000" + b"".join(b"%04d" % (end - start) for start, end in zip([0, *places], places))
+
+
 # Lines
 
 
@@ -245,7 +260,7 @@ def written(changes):
 
 def base(parts, endings=True):
     """The lines that make the base text of these records."""
-    line(b"m", b"")
+    line(b"M", b"")
     for part in parts:
         line(b"+" if endings else b"-", part)
 
@@ -253,7 +268,7 @@ def base(parts, endings=True):
 def message_case(n, changes, table=None):
     """A j line; the table has a byte for each item, or a few more, where nothing else is said."""
     length = n + chance.of((0, 0, 0, 1, 4)) if table is None else table
-    line(b"j", b"%05d " % length + b"".join(b"%04d" % cut for cut in cuts(n)) + written(changes))
+    line(b"j", b"%05d " % length + lengths(cuts(n)) + written(changes))
 
 
 def single_case(k, changes):
@@ -265,9 +280,9 @@ def status_case(length, changes):
 
 
 def given(day=E, banks=BANKS, known=KNOWN):
-    line(b"e", b"%08d" % day)
-    line(b"b", b"".join(b"%010d" % bank for bank in banks))
-    line(b"k", b"".join(known))
+    line(b"E", b"%08d" % day)
+    line(b"B", b"".join(b"%010d" % bank for bank in banks))
+    line(b"K", b"".join(known))
 
 
 # Lists and days that are refused, and some that aren't
@@ -412,12 +427,12 @@ def replies_by_particulars():
         particulars_case(b"@", 7, time, whole)
     for room in (0, 1, 55, 56, 103, 104, 105, 168, whole - 1, whole, whole + 1, 2000):
         particulars_case(b"0", 7, 83000, room)
-    line(b"p", PARTICULARS)
+    line(b"P", PARTICULARS)
 
 
 def particulars_case(duplicate, number, time, room):
-    """A p line and a few messages: good, with a T code, with any fault, broken or too short, with a byte in 10-34."""
-    line(b"p", duplicate + b" %010d %010d %04d" % (number, time, room))
+    """A P line and a few messages: good, with a T code, with any fault, broken or too short, with a byte in 10-34."""
+    line(b"P", duplicate + b" %010d %010d %06d" % (number, time, room))
     message_case(3, [])
     message_case(3, [change(starts(3)[1 + chance.under(3)], at_chance(ITEM_VALUES[4:8]))])
     message_case(3, [field_change(3)], chance.of((0, 2, 3)))
@@ -552,14 +567,14 @@ def closed():
 
 
 def sized(digits=b"111"):
-    line(b"z", digits)
+    line(b"Z", digits)
 
 
 def put(place, old, new):
     """The session's bytes from this place on, where they are to be others."""
     for k, byte in enumerate(new):
         if old[k] != byte:
-            line(b"x", b"%04d %03d" % (place + k, byte))
+            line(b"X", b"%04d %03d" % (place + k, byte))
 
 
 WRONG_SIZES = (b"011", b"211", b"101", b"121", b"110", b"112")
@@ -634,7 +649,7 @@ def calls_without_session():
 
 
 def numbers_out_of_range(real):
-    """docs/SESSION.md: each number of the session one beyond its range, with its place and width."""
+    """docs/SESSION.md: place, width and value of each number one beyond its range, or so large that a sum with it wraps."""
     numbers = [int.from_bytes(real[place : place + 8], "little") for place in range(4, 68, 8)]
     _, room, accepted, _, refused, _, _, fill = numbers
     record = session.record_size(real[1], real[93 : 93 + fill]) if real[1] < 2 else 1
@@ -657,15 +672,15 @@ def numbers_out_of_range(real):
 def calls_on_damaged_sessions():
     """Each number out of its range, one at a time; put right again, the session goes on."""
     base(records(3))
-    t_codes = [change(starts(3)[1], (35, b"1234567")), change(starts(3)[2], (51, b"0" * 24))]
-    for cut, changes, room in ((0, [], 3), (100, [], 3), (178, t_codes, 3), (700, t_codes, 5), (940, [], 3), (955, t_codes, 3)):
+    second = [change(starts(3)[2], (51, b"0" * 24))]  # the second item is refused
+    for cut, changes, room in ((0, [], 3), (100, [], 3), (178, second, 3), (700, second, 5), (940, [], 3), (955, second, 3)):
         comment("three items, %d bytes read: bytes that are no session's, or out of range: 5" % cut)
         real = session.of(message_of(3, changes)[:cut], room, *GIVEN)
         opened(room)
         taken(room, 0, cut, changes)
         for place, width, number in numbers_out_of_range(real):
             right, wrong = real[place : place + width], (number % 2**64).to_bytes(width, "little")
-            if right == wrong:  # 2**64 - 0
+            if right == wrong:  # a count of 0: nothing wraps
                 continue
             put(place, right, wrong)
             taken(room, cut, 9999, changes)
@@ -705,11 +720,51 @@ REFUSED = (
 )
 
 
+# The cases written by hand
+
+
+def unmoved(rest, day, banks, known):
+    """Pieces with every mistake at once, then one less each time: 5, 2, 3, 4; then the piece is taken as ever."""
+    own, sign, changes = rest.partition(b"|")
+    wrong, right = (b"%05d 0000 9999" % length + sign + changes for length in (int(own) - 1, int(own)))
+    for letter, words in (
+        *((b"E", b"00000000"), (b"o", own), (b"B", b"00000000020000000001"), (b"K", bytes(24)), (b"t", wrong)),
+        *((b"E", day), (b"o", own), (b"t", wrong)),
+        *((b"B", banks), (b"t", wrong)),
+        *((b"K", known), (b"t", wrong)),
+        *((b"t", right), (b"c", b"")),
+    ):
+        line(letter, words)
+
+
+def alone_and_inside(start, end, rest):
+    """The record between these places as a single one, and the message. Changes after the record, of the foot, are the message's alone."""
+    own = [change for change in rest[1:].split() if int(change[:4]) < end]
+    before = [b"0000%04d" % start] if start else []
+    line(b"s", b"0000000001| " + b" ".join([*before, *own, b"%04d9999" % end]))
+    line(b"j", b"00001 0000" + rest)
+
+
+def hand_written():
+    held = {}
+    for text in pathlib.Path(__file__).with_name("written").read_bytes().split(b"\n")[:-1]:
+        letter, rest = text[:1], text[2:]
+        held[letter] = rest
+        if letter == b"u":
+            unmoved(rest, held[b"E"], held[b"B"], held[b"K"])
+        elif letter == b"h":
+            alone_and_inside(0, 174, rest)
+        elif letter == b"i":
+            alone_and_inside(176, 425, rest)
+        else:
+            line(letter, rest)
+
+
 def main():
     signal.signal(signal.SIGPIPE, signal.SIG_DFL)  # where the reader stops, end
     comment("Cases of reference/cases.py. E 20200310, seven banks, two known identifiers, reply 0, 7, 083000")
     given()
-    line(b"p", PARTICULARS)
+    line(b"P", PARTICULARS)
     messages_alone()
     messages_broken()
     messages_in_pairs()
@@ -726,6 +781,7 @@ def main():
     calls_of_wrong_size()
     calls_on_damaged_sessions()
     calls_after_refused_pieces(6)
+    hand_written()
 
 
 if __name__ == "__main__":

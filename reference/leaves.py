@@ -1,17 +1,21 @@
-"""Expected answers of the small functions: digits, calendar, text, lists.
+"""Expected answers of the small functions: digits, calendar, text, lists; and of the foot's rules.
 
     python3 reference/leaves.py < crates/leaves/stdin
 
 Written from document 01 and the standard 002 alone, not from the code that is
 held to it. Each input line is a command letter, a space and the rest as raw
-bytes; each output line is the input line, a tab and the answers, with single
-spaces between them. In the input, a `t` line that starts with ## is a heading:
-it says what the lines after it try, and is itself tried as text.
+bytes; each output line is the input line, a tab and the answers, each after a
+space. In the input, a `t` line that starts with ## is a heading: it says what the
+lines after it try, and is itself tried as text. An account is 0 good, 1 of a bad
+form, 2 of a bad check digit; a date field is 1 and the day's number, 2 not digits,
+3 no date.
 """
 
 import datetime
 import itertools
 import sys
+
+sys.dont_write_bytecode = True  # no folder of compiled files beside the sources
 
 # 002 annex 11 and 01 "Faults of the whole message" 2: the letters by name.
 # Python's own code page 852 turns bytes into letters; 01's bytes are the same.
@@ -101,9 +105,12 @@ def put(text, out):
     return [True, text + out[len(text) :]] if len(text) <= len(out) else [False, out]
 
 
-def is_text(byte):
-    """01 "Faults of the whole message" 2; 002 annex 11."""
-    return 0x20 <= byte <= 0x7E or bytes([byte]).decode("cp852") in LETTERS
+PLAIN = bytes(range(0x20, 0x7F))
+
+
+def is_text(field):
+    """01 "Faults of the whole message" 2; 002 annex 11: nothing is left without the bytes that may stand in text."""
+    return field.translate(None, PLAIN + BYTES) == b""
 
 
 def only(field, allowed):
@@ -128,8 +135,8 @@ def date_field(field):
     """01 "Calls and their answers": not digits comes before no date."""
     day = date(field)
     if day is not None:
-        return [b"date", day.toordinal()]
-    return [b"none" if len(field) == 8 and all_digits(field) else b"digits", 0]
+        return [1, day.toordinal()]
+    return [3 if len(field) == 8 and all_digits(field) else 2]
 
 
 def window(first, last, days):
@@ -145,7 +152,7 @@ def window(first, last, days):
 
 def bank_list(code, banks):
     """01 "The job" and refusal 2; membership is promised for ascending lists."""
-    ascending = banks == sorted(set(banks))
+    ascending = list(banks) == sorted(set(banks))
     right = ascending and all(bank <= 99999999 for bank in banks)
     return [right, code in banks if ascending else b"-"]
 
@@ -171,16 +178,16 @@ def answers(command, rest):
     if command == b"e":
         return [ean13(rest)]
     if command == b"a":
-        return [account(rest), account_zero(rest)]
+        return [[b"good", b"form", b"check"].index(account(rest)), account_zero(rest)]
     if command == b"n":
         return write_number(int(rest[:2]), int(rest[2:22]), rest[22:])
     if command == b"x":
         count = 2 + int(rest[:2])
         return put(rest[2:count], rest[count:])
     if command == b"t":
-        return [all(map(is_text, rest)), all(0x20 <= b <= 0x7E for b in rest), only(rest, b" "), only(rest, b" 0")]
+        return [is_text(rest), all(0x20 <= b <= 0x7E for b in rest), only(rest, b" "), only(rest, b" 0")]
     if command == b"T":
-        return [b"".join(b"1" if is_text(byte) else b"0" for byte in range(256))]
+        return (is_text(bytes([byte])) for byte in range(256))
     if command == b"f":
         return date_field(rest)
     if command == b"w":
@@ -192,6 +199,10 @@ def answers(command, rest):
         return known_list(rest[:25], rest[25:])
     if command == b"p":
         return [rest in PURPOSES]
+    if command == b"z":
+        import rules  # which stands on this file
+
+        return [rules.judge_foot(rest[26:], int(rest[:10]), int(rest[10:26]))]
     raise ValueError(command)
 
 
@@ -204,7 +215,7 @@ def main():
     for line in sys.stdin.buffer:
         line = line.removesuffix(b"\n")
         given = answers(line[:1], line[2:])
-        sys.stdout.buffer.write(line + b"\t" + b" ".join(map(printed, given)) + b"\n")
+        sys.stdout.buffer.write(line + b"\t" + b"".join(b" " + printed(answer) for answer in given) + b"\n")
 
 
 if __name__ == "__main__":

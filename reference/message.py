@@ -6,6 +6,8 @@ number, the bank list is a list of numbers; the message, the known list and the
 code table are bytes. The rules of the fields are in rules.py.
 """
 
+from functools import lru_cache
+
 import rules
 from rules import BREAK, FOOT, HEAD, ITEM
 
@@ -51,6 +53,12 @@ def cut(message):
 
 
 # The parts of the answer
+
+
+@lru_cache(maxsize=None)
+def judge_item(record, k, banks):
+    """rules.judge_item; the same item comes in many messages, and is judged once."""
+    return rules.judge_item(record, k, banks)
 
 
 def verdict(head, items, foot):
@@ -117,7 +125,7 @@ def judge(message, day, banks, known, table):
     if refused:
         return refused, 0, zeros, NO_IDENTIFIER, table
     head, items, foot = cut(message)
-    judged = [rules.judge_item(item, k, banks) for k, item in enumerate(items, 1)]
+    judged = [judge_item(item, k, tuple(banks)) for k, item in enumerate(items, 1)]
     after = table_after(table, [item[2] for item in judged])
     # 01, refusal 6: more complete items before any break than the table.
     if len(items) > len(table):

@@ -215,7 +215,7 @@ def bad_letters(record, text):
     """01 "Faults of the whole message" 2: the text fields with a bad letter."""
     bad = []
     for field, first, last in text:
-        if not all(map(leaves.is_text, at(record, first, last))):
+        if not leaves.is_text(at(record, first, last)):
             bad.append(field)
     return bad
 

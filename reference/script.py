@@ -1,62 +1,65 @@
-"""What the scripts of faults.py, sessions.py and replies.py have in common.
+"""The lines of trial.py's script that set something and build the base text.
 
 Each line ends with 0Ah and is a command letter, a space and the rest as raw
 bytes:
 
     #   a comment, echoed whole
-    e   E, eight digits
-    b   the bank list, ten digits a number, end to end
-    k   the known list
+    E   the clearing day, eight digits
+    B   the bank list, ten digits a number, end to end
+    K   the known list
+    M   empties the base text
+    -   appends the bytes to it
+    /   appends the bytes and 0Ah
+    +   appends the bytes and 0Dh 0Ah
+    *   six digits N, a digit P, a digit W, one of - / + and bytes: appends the
+        bytes N times as that command does; each time the W bytes after the
+        first P are 1, 2 and so on, with leading zeros (W 0: none are)
 
-`e`, `b` and `k` hold until the next one and print nothing. Lines that build a
-message, in sessions.py and replies.py, print nothing either:
-
-    m   empties the message
-    +   appends the bytes and 0Dh 0Ah to the message
-    -   appends the bytes alone
-    *   six digits N, an item: appends it N times with 0Dh 0Ah, positions 3-8
-        replaced by 000001, 000002 and so on
+E, B and K hold until the next one. All but # print nothing.
 """
 
 import sys
 
+ENDINGS = {b"-": b"", b"/": b"\n", b"+": b"\r\n"}
+
 
 def cut_numbers(rest):
     """Numbers of ten digits each."""
-    return [int(rest[i : i + 10]) for i in range(0, len(rest), 10)]
+    return tuple(int(rest[i : i + 10]) for i in range(0, len(rest), 10))
 
 
 def commands():
-    """Every other line of standard input: its letter, its rest, and the E, bank list and known list that hold."""
-    day, banks, known = 0, [], b""
+    """Every line of standard input but # E B K: its letter, its rest, and the E, bank list and known list that hold."""
+    day, banks, known = 0, (), b""
     for line in sys.stdin.buffer:
         line = line.removesuffix(b"\n")
         command, rest = line[:1], line[2:]
         if command == b"#":
             sys.stdout.buffer.write(line + b"\n")
-        elif command == b"e":
+        elif command == b"E":
             day = int(rest)
-        elif command == b"b":
+        elif command == b"B":
             banks = cut_numbers(rest)
-        elif command == b"k":
+        elif command == b"K":
             known = rest
         else:
             yield command, rest, (day, banks, known)
 
 
-def repeated(count, item):
-    """The item this many times, with its place as number and the ending."""
-    return b"".join(item[:2] + b"%06d" % k + item[8:] + b"\r\n" for k in range(1, count + 1))
+def numbered(rest, first, width, k):
+    """The bytes with a number of so many digits over those after the first ones."""
+    return rest[:first] + b"%0*d" % (width, k) + rest[first + width :] if width else rest
+
+
+def repeated(rest):
+    """What a * line appends."""
+    count, first, width, ending = int(rest[:6]), int(rest[6:7]), int(rest[7:8]), rest[8:9]
+    lines = (numbered(rest[9:], first, width, k) for k in range(1, count + 1))
+    return b"".join(line + ENDINGS[ending] for line in lines)
 
 
 def built(text, command, rest):
-    """The message after a line that builds it."""
-    if command == b"m":
+    """The base text after a line that builds it."""
+    if command == b"M":
         return b""
-    if command == b"+":
-        return text + rest + b"\r\n"
-    if command == b"-":
-        return text + rest
-    if command == b"*":
-        return text + repeated(int(rest[:6]), rest[6:])
-    raise ValueError(command)
+    return text + (repeated(rest) if command == b"*" else rest + ENDINGS[command])

@@ -3,42 +3,52 @@
     python3 reference/trial.py < crates/trial/stdin
 
 Written from document 01, docs/CODES.md, docs/SESSION.md and the header alone, not
-from the code that is held to them. Comments, E, the lists and the lines m, + and -
-are those of script.py; what they build is the base text. And:
+from the code that is held to them. The lines # E B K, and those that build the base
+text, are those of script.py; like them, P, Z and X set something, and the lines with
+small letters try something:
 
-    p   duplicate code, ten digits number, ten digits time, four digits output's
+    P   duplicate code, ten digits number, ten digits time, six digits output's
         length, single spaces between them: the particulars of the replies
-    z   three digits, for session, numbers and id: 0 the buffer that is lent has one
+    Z   three digits, for session, numbers and id: 0 the buffer that is lent has one
         element too few, 1 the right count, 2 one too many
-    j   five digits code table's length, a space, four digits for each cut: judges
-        the text whole and by the pieces that the cuts make, writes the reply to it
-        and reads the reply
+    j   five digits code table's length, a space, four digits for the length of each
+        piece: judges the text whole and by pieces, writes the reply to it and reads
+        the reply. The first length is that of the last piece and of any further ones,
+        0 for what is left; the pieces before it have the lengths that follow
+    a   five digits code table's length, at most 25: judges the text in two pieces, cut
+        at each place of the text
+    w   five digits code table's length: writes the reply to the text and reads it
     s   ten digits k: judges the text as a single record
     r   five digits code table's length: reads the text as a STATUS
+    f   five digits for the length of each of the files day, banks and known, single
+        spaces between them: prints the slip for them and the message, which follow
+        each other in the text
     o   five digits code table's length: opens the session
     t   five digits code table's length, four digits first, four digits last, single
         spaces between them: the session takes the text's bytes from first to last
     c   closes the session
-    x   four digits place, a space, three digits: puts that byte into the session
+    X   four digits place, a space, three digits: puts that byte into the session
 
-The text of a j, s, r or t line is the base text with the changes that follow the
-sign | of the line: each is a space, four digits k, four digits n, and in
-hexadecimal the bytes that stand in place of the n after the base's first k.
-They come in ascending order and don't overlap. Elements of tables, outputs, numbers
-and identifiers are all 255 before each call. The session of o, t, c and x stays
-from line to line; it has zeros at first. Only #, j, s, r, o, t and c print.
+The text of a line is the base text with the changes that follow the sign | of the
+line: each is a space, four digits k, four digits n, and in hexadecimal the bytes that
+stand in place of the n after the base's first k. They come in ascending order and
+don't overlap. Elements of tables, outputs, numbers and identifiers are all 255 before
+each call. The session of o, t, c and X stays from line to line; it has zeros at first.
+Lines P, Z and X print nothing.
 
 Each call gives its number, then what stands in the numbers that it was lent, in the
 identifier and in the table, each of these two by the sum of its bytes and the sum of
 the sums of all its beginnings; what a call leaves alone is 255.
 
-A j line has that of nsh_judge, and 1 where the pieces gave the same; then w, the
-number of nsh_reply, its numbers, and the two sums of the reply and of what follows
-it in an output of 2,000 bytes; then r and that of nsh_read_status on the reply. An r
-line has r and that of nsh_read_status, an s line the number of nsh_single. An o, t or
-c line has that of its call, with 1 or 0 after the number: 1 where the session's bytes
-are those before the call. The numbers and the identifier are there also for o and t,
-and the table, of length 0, for c.
+A j line has that of nsh_judge, then p and that of the pieces: the number of the first
+of their calls that was refused, and what they left. A j or w line has w, the number of
+nsh_reply, its numbers, and the two sums of the reply and of what follows it in the
+output; then r and that of nsh_read_status on the reply. An r line has that of
+nsh_read_status, an s line the number of nsh_single, an f line what is printed, on lines
+of its own. An a line has that of the pieces, none and all, and 1 where the pieces of
+each cut left the same, as 01 demands. An o, t or c line has that of its call, and 1
+where the session's bytes are those before the call, else 0. Numbers and identifier are
+there also for o and t, and a table of length 0 for c.
 """
 
 import signal
@@ -51,12 +61,12 @@ import message
 import rules
 import script
 import session
+import slip
 import status
 
 UNTOUCHED = 255
-SIZE = 11  # the header, NSH_SIZE
-CLOSING_NUMBERS, REPLY_NUMBERS, STATUS_NUMBERS, ID_BYTES = 6, 1, 10, 25
-OUTPUT = 2000
+SIZE = 99  # the header, NSH_SIZE
+CLOSING_NUMBERS, REPLY_NUMBERS, ID_BYTES = 6, 1, 25  # the header, sizes of buffers
 
 # The header, NSH_FIELD and NSH_KIND: numbered from 1.
 FIELDS = b"""
@@ -81,7 +91,7 @@ def changed(base, changes):
 
 
 class Sizes:
-    """A z line: how far session, numbers and id are from their right sizes."""
+    """A Z line: how far session, numbers and id are from their right sizes."""
 
     def __init__(self, digits):
         self.session, self.numbers, self.id = (int(digit) - 1 for digit in digits.decode())
@@ -113,17 +123,17 @@ def lent(refused, numbers, identifier, sizes):
 # Calls on a whole message, a single record and a STATUS
 
 
-def judged(text, given, table, sizes):
-    """What nsh_judge gives, and whether the calls by pieces give the same."""
+def judged(text, given, table, sizes, by_pieces):
+    """What nsh_judge gives, or the calls by pieces: a wrong size of numbers and id is refused at once, or at closing."""
     refused, code, numbers, identifier, after = message.judge(text, *given, table)
-    whole = pieces = refused, after
-    if sizes.numbers or sizes.id:  # the whole call is refused at once, the pieces at closing, if no call before it was refused
-        whole = SIZE, table
-        pieces = pieces if refused in (1, 2, 3, 4) else (SIZE, after)
-    if sizes.session:
-        pieces = SIZE, table
-    said = b" %d" % whole[0] + lent(whole[0], (code, *numbers), identifier, sizes) + sums(whole[1])
-    return said + b" %d" % (whole == pieces)
+    if by_pieces and sizes.session:
+        refused, after = SIZE, table
+    elif sizes.numbers or sizes.id:
+        if not by_pieces:
+            refused, after = SIZE, table
+        elif refused not in (1, 2, 3, 4):
+            refused = SIZE
+    return b" %d" % refused + lent(refused, (code, *numbers), identifier, sizes) + sums(after)
 
 
 def replied(text, given, particulars, sizes):
@@ -134,7 +144,7 @@ def replied(text, given, particulars, sizes):
     if sizes.numbers:
         refused, written = SIZE, b""
     numbers = untouched(REPLY_NUMBERS + sizes.numbers) if refused else (len(written),)
-    return b" w %d" % refused + listed(numbers) + sums(written) + sums(untouched(OUTPUT - len(written))), written
+    return b" w %d" % refused + listed(numbers) + sums(written) + sums(untouched(room - len(written))), written
 
 
 def read(text, length, sizes):
@@ -146,7 +156,7 @@ def read(text, length, sizes):
         refused, codes = SIZE, b""
     numbers = (facts.duplicate, *facts[2:])
     table = message.table_after(untouched(length), codes)
-    return b" r %d" % refused + lent(refused, numbers, facts.identifier, sizes) + sums(table)
+    return b" %d" % refused + lent(refused, numbers, facts.identifier, sizes) + sums(table)
 
 
 def single(text, k, given):
@@ -166,10 +176,10 @@ class Host:
 
     def __init__(self):
         self.session = bytes(session.SIZE)
-        self.read, self.room, self.given = b"", 0, (0, [], b"")
+        self.read, self.room, self.given = b"", 0, (0, (), b"")
 
     def is_open(self):
-        """Bytes that x lines put in leave a session as it was or make it none: only then its answers are known here."""
+        """Bytes that X lines put in leave a session as it was or make it none: only then its answers are known here."""
         if not session.is_open(self.session):
             return False
         real = session.of(self.read, self.room, *self.given)
@@ -181,7 +191,7 @@ class Host:
         """nsh_open: 11, 1, 4."""
         if sizes.session:
             return SIZE
-        self.read, self.room, self.given = b"", length, (day, [], b"")
+        self.read, self.room, self.given = b"", length, (day, (), b"")
         refused = 1 if rules.clearing_day(day) is None else 4 if length > message.LONGEST_TABLE else 0
         self.session = session.CLOSED if refused else session.of(b"", length, *self.given)
         return refused
@@ -221,42 +231,54 @@ class Host:
             refused, table = self.piece(new, given, table, sizes)
         else:
             refused, numbers, identifier = self.close(numbers, identifier, sizes)
-        said = b" %d %d" % (refused, self.session == before)
-        return said + listed(numbers) + sums(identifier) + sums(table)
+        return b" %d" % refused + listed(numbers) + sums(identifier) + sums(table) + b" %d" % (self.session == before)
 
     def put(self, place, byte):
-        """An x line."""
+        """An X line."""
         self.session = self.session[:place] + bytes([byte]) + self.session[place + 1 :]
 
 
 # Lines
 
 
+def printed(own, text):
+    """What an f line prints, without the letter: the files and the message follow each other."""
+    day, banks, known = (int(field) for field in own.split())
+    files, rest = text[: day + banks], text[day + banks :]
+    return b"\n" + slip.slip(files[:day], files[day:], rest[:known], rest[known:])
+
+
 def answer(command, own, text, given, particulars, sizes, host):
     """What a line of this command prints, without the letter."""
     if command == b"s":
         return b" %d" % single(text, int(own), given)
+    if command == b"f":
+        return printed(own, text)
     if command in b"otc":
         length, first, last = ([int(field) for field in own.split()] + [0, 0, 0])[:3]
         return host.call(command, text[first:last], given, length, sizes)
     length = int(own[:5])
     if command == b"r":
         return read(text, length, sizes)
+    by_pieces = judged(text, given, untouched(length), sizes, True)
+    if command == b"a":
+        return by_pieces + b" 1"
+    said = b"" if command == b"w" else judged(text, given, untouched(length), sizes, False) + b" p" + by_pieces
     reply, written = replied(text, given, particulars, sizes)
-    return judged(text, given, untouched(length), sizes) + reply + read(written, length, sizes)
+    return said + reply + b" r" + read(written, length, sizes)
 
 
 def main():
     signal.signal(signal.SIGPIPE, signal.SIG_DFL)  # where the reader stops, end
     base, particulars, sizes, host = b"", b"", Sizes(b"111"), Host()
     for command, rest, given in script.commands():
-        if command == b"p":
+        if command == b"P":
             particulars = rest
-        elif command == b"z":
+        elif command == b"Z":
             sizes = Sizes(rest)
-        elif command == b"x":
+        elif command == b"X":
             host.put(int(rest[:4]), int(rest[5:]))
-        elif command in b"jsrotc":
+        elif command in b"jawsrfotc":
             own, _, changes = rest.partition(b"|")
             text = changed(base, changes.split())
             line = answer(command, own, text, given, particulars, sizes, host)

@@ -18,9 +18,9 @@ use Rattle.lists.specs.Known.{isKnownList}
 use Rattle.frame.specs.Records.{ended}
 use Rattle.frame.specs.Verdict.{findings, verdict}
 use Rattle.frame.specs.Machine.{joined}
-use Rattle.rules.specs.declared.refusal.Refusal.{Refusal}
-use Rattle.rules.specs.declared.refusal.Refusal.the-variants as refusal
-use Rattle.rules.proofs.Instance.{empty-message}
+use Rattle.findings.specs.declared.refusal.Refusal.{Refusal}
+use Rattle.findings.specs.declared.refusal.Refusal.the-variants as refusal
+use Rattle.atutal.proofs.Instance.{empty-message}
 use Rattle.judge.specs.declared.Outcome.the-variants.{Done, Refused}
 use Rattle.judge.specs.declared.Session.{Session}
 use Rattle.judge.specs.Session.{inRange, stateOf, closedSession, give, opened, taken, tableTaken, judgedOf}

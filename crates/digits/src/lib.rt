@@ -1,4 +1,4 @@
-// Decimal fields: their digits and numbers, the check digit of annex 6 and EAN-13 (`check`), account fields (`account`).
+// Decimal fields: their digits, their numbers, and writing a number.
 ghost use mathlib.Core.Path.{_≡_};
 ghost use mathlib.Core.Bool.{cond};
 ghost use Prim.Native.Nat.{_≤_, _<_, _^_};
@@ -7,11 +7,8 @@ ghost use lib.Dec.{ltb};
 ghost use Rattle.base.specs.Bytes.{over};
 ghost use Rattle.digits.specs.Digits.{digit, isDigits, numberOf, figures, hasRoom, withNumber};
 
-pub mod account;
-pub mod check;
-
 // A byte is one of '0' to '9'.
-fn is_digit(b: u8) -> bool
+pub fn is_digit(b: u8) -> bool
     ensures { λ r. ⌜ r ≡ digit b ⌝ }
 {
     (b >= b'0') & (b <= b'9')

@@ -7,7 +7,7 @@ use Rattle.base.specs.Bytes.{ascii}
 use Rattle.digits.specs.Digits.{numberOf}
 use Rattle.calendar.specs.Calendar.{leap, isDate}
 use Rattle.calendar.specs.Reading.{readingOf}
-use Rattle.rules.specs.declared.refusal.Refusal.the-variants.{NotADay, BankList, KnownList}
+use Rattle.findings.specs.declared.refusal.Refusal.the-variants.{NotADay, BankList, KnownList}
 use Rattle.files.specs.declared.Given.the-variants.{Files, Refused}
 use Rattle.files.specs.Files.{dayOf, isBanks, givenBy}
 

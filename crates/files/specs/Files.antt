@@ -13,7 +13,7 @@ use Rattle.calendar.specs.declared.Reading.{Reading}
 use Rattle.calendar.specs.declared.Reading.the-variants.{Date, NotDigits, NoDate}
 use Rattle.lists.specs.Banks.{isBankList}
 use Rattle.lists.specs.Known.{isKnownList}
-use Rattle.rules.specs.declared.refusal.Refusal.the-variants as refusal
+use Rattle.findings.specs.declared.refusal.Refusal.the-variants as refusal
 use Rattle.files.specs.declared.Given.{Given}
 use Rattle.files.specs.declared.Given.the-variants.{Files, Refused}
 

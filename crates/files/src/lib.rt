@@ -6,7 +6,7 @@ ghost use lib.ListN.{length};
 ghost use Rattle.base.specs.Bytes.{over};
 ghost use Rattle.files.specs.Files.{dayOf, isLine, numbers, ordered, isBanks, isKnownFile, ReadAs};
 use calendar::Reading;
-use rules::refusal::Refusal;
+use findings::refusal::Refusal;
 
 // The most bytes that a file may have.
 pub const MOST: usize = 25000;

@@ -21,9 +21,9 @@ use Rattle.frame.specs.Faults.{Faultless}
 use Rattle.frame.proofs.Pieces.{run-append}
 use Rattle.frame.proofs.Whole.{uncut}
 use Rattle.frame.proofs.Faults.{faultless, code-zero, totals as foot-totals}
-use Rattle.rules.specs.Codes.{rules}
-use Rattle.rules.proofs.Instance.{sound}
-use Rattle.rules.specs.declared.refusal.Refusal.the-variants as refusal
+use Rattle.atutal.specs.Codes.{rules}
+use Rattle.atutal.proofs.Instance.{sound}
+use Rattle.findings.specs.declared.refusal.Refusal.the-variants as refusal
 use Rattle.judge.specs.declared.Outcome.{Outcome}
 use Rattle.judge.specs.declared.Outcome.the-variants.{Done, Refused}
 use Rattle.judge.specs.declared.Closed.{Closed}

@@ -16,7 +16,7 @@ use Rattle.frame.specs.Records.{isFoot}
 use Rattle.frame.specs.Verdict.{Verdict, blank}
 use Rattle.frame.specs.Machine.{State, size, closing}
 use Rattle.frame.proofs.Pieces.{size-front}
-use Rattle.rules.specs.Codes.{rules}
+use Rattle.atutal.specs.Codes.{rules}
 use Rattle.judge.specs.Session.{pad, stateWith, whole, tallyInRange, inRange}
 use Rattle.judge.specs.declared.Tally.{Tally}
 use Rattle.judge.specs.declared.Session.{Session}

@@ -16,8 +16,8 @@ use Rattle.lists.specs.Known.{isKnownList}
 use Rattle.frame.specs.Records.{ended, isFoot}
 use Rattle.frame.specs.Verdict.{Rules}
 use Rattle.frame.specs.Machine.{State, fresh, at, items, size, headRead, itemCounted, itemRead, footRead, judged, pushed, step, run}
-use Rattle.rules.specs.Codes.{rules, itemFound}
-use Rattle.rules.specs.declared.refusal.Refusal.the-variants as refusal
+use Rattle.atutal.specs.Codes.{rules, itemFound}
+use Rattle.findings.specs.declared.refusal.Refusal.the-variants as refusal
 use Rattle.judge.specs.declared.Session.{Session}
 use Rattle.judge.specs.declared.Outcome.the-variants.{Done, Refused}
 use Rattle.judge.specs.Session.{pad, stateOf, sessionOf, whole, tallyInRange, heldInRange, inRange, give, opened, taken}

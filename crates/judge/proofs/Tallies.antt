@@ -14,9 +14,10 @@ use Rattle.frame.specs.declared.Found.{Found}
 use Rattle.frame.specs.Records.{idOf, ended, isFoot}
 use Rattle.frame.specs.Verdict.{blank}
 use Rattle.frame.specs.Machine.{State, at, earlier, headRead, itemCounted, itemRead, footRead, judged, closing}
-use Rattle.rules.specs.declared.head.HeadFound.{HeadFound}
-use Rattle.rules.specs.Codes.{rules, headFound, itemFound, footCode}
-use Rattle.rules.proofs.Bounds.{small}
+use Rattle.heads.specs.declared.HeadFound.{HeadFound}
+use Rattle.atutal.specs.Codes.{rules, itemFound, footCode}
+use Rattle.heads.specs.Heads.{headFound}
+use Rattle.atutal.proofs.Bounds.{small}
 use Rattle.judge.specs.declared.Totals.{Totals}
 use Rattle.judge.specs.declared.Tally.{Tally}
 use Rattle.judge.specs.declared.Closing.{Closing}

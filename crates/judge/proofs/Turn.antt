@@ -20,7 +20,7 @@ use Rattle.text.proofs.At.{put-at}
 use Rattle.frame.specs.Verdict.{Rules}
 use Rattle.frame.specs.Machine.{State, at, size, headRead, itemCounted, itemRead, footRead, judged, run}
 use Rattle.frame.proofs.Pieces.{run-append, run-exact, run-kept, run-whole, size-front, size-seen, run-broken, run-overflown, run-after}
-use Rattle.rules.specs.Codes.{rules}
+use Rattle.atutal.specs.Codes.{rules}
 use Rattle.judge.specs.declared.Tally.{Tally}
 use Rattle.judge.specs.declared.Left.{Left}
 use Rattle.judge.specs.declared.Walked.{Walked}

@@ -12,9 +12,10 @@ use Rattle.frame.specs.declared.Found.{Found}
 use Rattle.frame.specs.Records.{ended, isFoot}
 use Rattle.frame.specs.Verdict.{Rules}
 use Rattle.frame.specs.Machine.{State, at, items, sum, earlier, size, headRead, itemCounted, itemRead, footRead, judged, pushed, step, run}
-use Rattle.rules.specs.Codes.{rules, headFound, itemFound, footCode}
-use Rattle.rules.proofs.Bounds.{small, foot-small}
-use Rattle.rules.proofs.HeadSmall.{head-small}
+use Rattle.atutal.specs.Codes.{rules, itemFound, footCode}
+use Rattle.heads.specs.Heads.{headFound}
+use Rattle.atutal.proofs.Bounds.{small, foot-small}
+use Rattle.heads.proofs.HeadSmall.{head-small}
 use Rattle.judge.specs.declared.Tally.{Tally}
 use Rattle.judge.specs.Session.{stateWith, tallyOf}
 use Rattle.judge.specs.Reading.{Ready, Read}

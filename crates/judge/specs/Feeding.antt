@@ -3,7 +3,7 @@
 use Prim.Native.Nat.{ℕ}
 use mathlib.Core.List.{List, [], _∷_}
 use Rattle.frame.specs.Verdict.{Verdict}
-use Rattle.rules.specs.declared.refusal.Refusal.{Refusal}
+use Rattle.findings.specs.declared.refusal.Refusal.{Refusal}
 use Rattle.judge.specs.declared.Session.{Session}
 use Rattle.judge.specs.declared.Outcome.{Outcome}
 use Rattle.judge.specs.declared.Outcome.the-variants.{Done, Refused}

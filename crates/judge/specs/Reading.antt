@@ -11,8 +11,8 @@ use Rattle.lists.specs.Known.{isKnownList}
 use Rattle.frame.specs.declared.Found.{Found}
 use Rattle.frame.specs.Verdict.{Rules}
 use Rattle.frame.specs.Machine.{State, run}
-use Rattle.rules.specs.Codes.{rules}
-use Rattle.rules.specs.declared.refusal.Refusal.the-variants as refusal
+use Rattle.atutal.specs.Codes.{rules}
+use Rattle.findings.specs.declared.refusal.Refusal.the-variants as refusal
 use Rattle.judge.specs.declared.Totals.{Totals}
 use Rattle.judge.specs.declared.Tally.{Tally}
 use Rattle.judge.specs.declared.Session.{Session}

@@ -13,10 +13,10 @@ use Rattle.lists.specs.Known.{isKnownList}
 use Rattle.frame.specs.Records.{noId}
 use Rattle.frame.specs.Verdict.{Rules, Verdict, verdict, tableAfter}
 use Rattle.frame.specs.Machine.{State, fresh, size, run, closing}
-use Rattle.rules.specs.Codes.{rules}
-use Rattle.rules.specs.Refusals.{refusalNumber}
-use Rattle.rules.specs.declared.refusal.Refusal.{Refusal}
-use Rattle.rules.specs.declared.refusal.Refusal.the-variants as refusal
+use Rattle.atutal.specs.Codes.{rules}
+use Rattle.findings.specs.Refusals.{refusalNumber}
+use Rattle.findings.specs.declared.refusal.Refusal.{Refusal}
+use Rattle.findings.specs.declared.refusal.Refusal.the-variants as refusal
 use Rattle.judge.specs.declared.Totals.{Totals}
 use Rattle.judge.specs.declared.Tally.{Tally}
 use Rattle.judge.specs.declared.Session.{Session}

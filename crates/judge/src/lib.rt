@@ -7,10 +7,10 @@ ghost use Prim.Native.Nat.{_+_, _≤_, _<_};
 ghost use lib.ListN.{length, take, drop};
 ghost use Rattle.frame.specs.Machine.{at, earlier, headRead, itemCounted, itemRead, footRead, judged, run, closing};
 ghost use Rattle.frame.specs.Verdict.{blank};
-ghost use Rattle.rules.specs.Codes.{rules};
-ghost use Rattle.judge.specs.Session.{whole, pad, stateWith, tallyOf, tallyInRange, heldInRange, inRange, closedSession, opened, Took, partsOf, Stepped, closingOf, closedOf, refusedAs, JudgedAs};
+ghost use Rattle.atutal.specs.Codes.{rules};
+ghost use Rattle.judge.specs.Session.{whole, pad, stateWith, tallyOf, tallyInRange, heldInRange, inRange, closedSession, opened, Took, partsOf, Stepped, closingOf, closedOf};
 ghost use Rattle.judge.specs.Reading.{addedTo, Ready, Countable, Read, Fit, Partial, Became, EndedAs, WalkedOf, refusalOf};
-use rules::refusal::Refusal;
+use findings::refusal::Refusal;
 
 // How many items, and the sum of their amounts.
 pub struct Totals {
@@ -71,7 +71,7 @@ pub struct Closed {
     pub next: Session,
 }
 
-// What judging a whole message gives.
+// What judging a whole message gives (`message::judge`).
 pub struct Judged {
     pub outcome: Outcome,
     pub closing: Closing,
@@ -167,7 +167,7 @@ impl Tally {
     fn head(self, r: &[u8], day: u32, banks: &[u32], known: &[u8]) -> Tally
         ensures { λ n. ⌜ n ≡ tallyOf (headRead (rules day (now (banks .entry)) (now (known .entry))) (stateWith self [] []) (now (r .entry))) ⌝ }
     {
-        let f = rules::head::judge(r, day, banks, known);
+        let f = heads::judge(r, day, banks, known);
         let a = self.accepted;
         let b = self.refused;
         Tally {
@@ -221,7 +221,7 @@ impl Tally {
         let k = a.count + b.count;
         let at = k as usize;
         if at < table.len() {
-            let f = rules::item::judge(r, k + 1, banks);
+            let f = atutal::item::judge(r, k + 1, banks);
             table[at] = f.code;
             return self.counted(f);
         }
@@ -241,7 +241,7 @@ impl Tally {
         }
         let mut t = self;
         t.phase = 2;
-        t.code = earlier(self.code, rules::foot::judge(r, items, a.sum + b.sum));
+        t.code = earlier(self.code, atutal::foot::judge(r, items, a.sum + b.sum));
         t
     }
 
@@ -688,44 +688,5 @@ impl Tally {
             zeros: self.zeros,
             id: id,
         }
-    }
-}
-
-// A whole message is judged: opening, one piece and closing; refusals 1, 4, 2, 3, 6.
-pub fn judge(day: u32, banks: &[u32], known: &[u8], table: &mut [u8], message: &[u8]) -> Judged
-    ensures { λ r. ⌜ JudgedAs day (now (banks .entry)) (now (known .entry)) (now (table .entry)) (now (message .entry)) r (now (table .exit)) ⌝ }
-{
-    let opened = Session::open(day, table);
-    let o = opened.outcome;
-    let s = opened.next;
-    match o {
-        Outcome::Refused(r) => refused(r),
-        Outcome::Done => {
-            let taken = s.take(message, banks, known, table);
-            let o = taken.outcome;
-            let s = taken.next;
-            match o {
-                Outcome::Refused(r) => refused(r),
-                Outcome::Done => {
-                    let c = s.close();
-                    let o = c.outcome;
-                    let k = c.closing;
-                    Judged {
-                        outcome: o,
-                        closing: k,
-                    }
-                }
-            }
-        }
-    }
-}
-
-// A refusal, with no numbers.
-fn refused(r: Refusal) -> Judged
-    ensures { λ j. ⌜ j ≡ refusedAs r ⌝ }
-{
-    Judged {
-        outcome: Outcome::Refused(r),
-        closing: Closing::none(0, [b' '; 25]),
     }
 }

@@ -1,54 +1,38 @@
-// Runs the lines of standard input through every public function of digits, calendar, text and lists. A line is a
-// command letter, a space and bytes; each is printed again with a tab and the answers (reference/leaves.py says which).
+// Runs the lines of standard input through every public function of digits, calendar, text and lists, and through the foot's rules. A line is
+// a command letter, a space and bytes; each is printed again with a tab and the answers (reference/leaves.py says which).
 use libc::STDIN_FILENO;
-use libc::STDOUT_FILENO;
-ghost use Prim.Native.Nat.{_≤_};
-ghost use lib.ListN.{length};
-
-fn put(s: &[u8]) {
-    io::write_all(STDOUT_FILENO, s);
-}
+use script::end_of;
+use script::field;
+use script::put;
+use script::put_number;
 
 fn put_flag(yes: bool) {
-    if yes {
-        put(b"1");
-    } else {
-        put(b"0");
-    }
+    put_number(yes as u64);
 }
 
-fn put_two(a: bool, b: bool) {
-    put_flag(a);
-    put(b" ");
-    put_flag(b);
-}
-
-fn put_decimal(n: u64) {
-    io::print_decimal(STDOUT_FILENO, n);
-}
-
-fn field(s: &[u8]) {
+fn decimal(s: &[u8]) {
     put_flag(digits::is_digits(s));
-    put(b" ");
-    put_decimal(digits::number(s));
+    put_number(digits::number(s));
 }
 
 fn account(s: &[u8]) {
-    match digits::account::read(s) {
-        digits::account::Account::Good => put(b"good "),
-        digits::account::Account::Form => put(b"form "),
-        digits::account::Account::CheckDigit => put(b"check "),
-    }
-    put_flag(digits::account::is_zero(s));
+    put_number(
+        match account::read(s) {
+            account::Account::Good => 0,
+            account::Account::Form => 1,
+            account::Account::CheckDigit => 2,
+        },
+    );
+    put_flag(account::is_zero(s));
 }
 
-// The number that twenty digits stand for, 0 where it is 2^64 or more.
+// The number that the twenty digits after the first two bytes stand for, 0 where it is 2^64 or more.
 fn large(s: &[u8]) -> u64 {
-    if s.len() != 20 {
+    if s.len() < 22 {
         return 0;
     }
-    let high = digits::number(&s[0..4]);
-    let low = digits::number(&s[4..20]);
+    let high = field(s, 2, 6) as u64;
+    let low = digits::number(&s[6..22]);
     if high > 1844 {
         return 0;
     }
@@ -64,21 +48,6 @@ fn large(s: &[u8]) -> u64 {
     high * 10000000000000000 + low
 }
 
-// The bytes from a place on, copied to the front of what is lent.
-fn copy(out: &mut [u8], s: &[u8], from: usize) {
-    let mut i = 0;
-    while i < out.len() {
-        if i >= s.len() {
-            return;
-        }
-        if from >= s.len() - i {
-            return;
-        }
-        out[i] = s[from + i];
-        i += 1;
-    }
-}
-
 // A number written into the bytes after its width and its digits.
 fn written(space: &mut [u8], s: &[u8]) {
     if s.len() < 22 {
@@ -88,19 +57,16 @@ fn written(space: &mut [u8], s: &[u8]) {
     if count > space.len() {
         return;
     }
-    copy(&mut space[0..count], s, 22);
-    let w = digits::number(&s[0..2]) as usize;
-    put_flag(digits::put_number(&mut space[0..count], w, large(&s[2..22])));
+    text::put(space, &s[22..]);
+    let w = field(s, 0, 2) as usize;
+    put_flag(digits::put_number(&mut space[0..count], w, large(s)));
     put(b" ");
     put(&space[0..count]);
 }
 
 // Bytes put over the front of those after them; two digits say how many.
 fn put_over(space: &mut [u8], s: &[u8]) {
-    if s.len() < 2 {
-        return;
-    }
-    let end = 2 + digits::number(&s[0..2]) as usize % 100;
+    let end = 2 + field(s, 0, 2) as usize;
     if s.len() < end {
         return;
     }
@@ -108,16 +74,17 @@ fn put_over(space: &mut [u8], s: &[u8]) {
     if count > space.len() {
         return;
     }
-    copy(&mut space[0..count], s, end);
+    text::put(space, &s[end..]);
     put_flag(text::put(&mut space[0..count], &s[2..end]));
     put(b" ");
     put(&space[0..count]);
 }
 
 fn text_field(s: &[u8]) {
-    put_two(text::is_text(s), text::is_plain(s));
-    put(b" ");
-    put_two(text::is_blank(s), text::is_blank_or_zero(s));
+    put_flag(text::is_text(s));
+    put_flag(text::is_plain(s));
+    put_flag(text::is_blank(s));
+    put_flag(text::is_blank_or_zero(s));
 }
 
 fn every_byte() {
@@ -132,30 +99,19 @@ fn every_byte() {
 fn date_field(s: &[u8]) {
     match calendar::read_date(s) {
         calendar::Reading::Date(n) => {
-            if calendar::is_date(n) {
-                put(b"date ");
-            }
-            put_decimal(calendar::day_number(n) as u64);
+            put_flag(calendar::is_date(n));
+            put_number(calendar::day_number(n) as u64);
         }
-        calendar::Reading::NotDigits => put(b"digits 0"),
-        calendar::Reading::NoDate => put(b"none 0"),
+        calendar::Reading::NotDigits => put_number(2),
+        calendar::Reading::NoDate => put_number(3),
     }
-}
-
-fn small(s: &[u8]) -> u32 {
-    (digits::number(s) % 4294967296) as u32
 }
 
 fn window(s: &[u8]) {
-    if s.len() != 21 {
-        return;
-    }
-    let first = small(&s[0..8]);
-    let later = small(&s[8..16]);
-    put_two(
-        calendar::is_within(first, later, small(&s[16..21])),
-        calendar::is_before(first, later),
-    );
+    let first = field(s, 0, 8);
+    let later = field(s, 8, 16);
+    put_flag(calendar::is_within(first, later, field(s, 16, 21)));
+    put_flag(calendar::is_before(first, later));
 }
 
 // Each number is above the one before it.
@@ -170,12 +126,13 @@ fn rises(list: &[u32]) -> bool {
     true
 }
 
-// The code's answer, where the list rises: only there is it membership.
-fn put_listed(list: &[u32], code: u32) {
+// The answers on a list and a code; where the list doesn't rise, being listed isn't promised.
+fn listed(list: &[u32], code: u32) {
+    put_flag(lists::is_bank_list(list));
     if rises(list) {
         put_flag(lists::is_listed(list, code));
     } else {
-        put(b"-");
+        put(b" -");
     }
 }
 
@@ -187,7 +144,7 @@ fn fill(list: &mut [u32], s: &[u8]) {
             return;
         }
         let at = i * 10 + 10;
-        list[i] = small(&s[at..at + 10]);
+        list[i] = field(s, at, at + 10);
         i += 1;
     }
 }
@@ -201,35 +158,39 @@ fn banks(space: &mut [u32], s: &[u8]) {
     if count > space.len() {
         return;
     }
-    fill(&mut space[0..count], s);
-    put_flag(lists::is_bank_list(&space[0..count]));
-    put(b" ");
-    put_listed(&space[0..count], small(&s[0..10]));
+    fill(space, s);
+    listed(&space[0..count], field(s, 0, 10));
 }
 
+// An identifier, and a known list.
 fn known(s: &[u8]) {
     if s.len() < 25 {
         return;
     }
     let mut id = [0u8; 25];
-    let mut i = 0;
-    while i < 25 {
-        id[i] = s[i];
-        i += 1;
+    text::put(&mut id, &s[0..25]);
+    let list = &s[25..];
+    put_flag(lists::is_known_list(list));
+    put_flag(lists::is_known(list, id));
+}
+
+// Ten digits count, sixteen digits sum, and a foot.
+fn foot(s: &[u8]) {
+    if s.len() < 26 {
+        return;
     }
-    put_two(
-        lists::is_known_list(&s[25..]),
-        lists::is_known(&s[25..], id),
-    );
+    let count = digits::number(&s[0..10]);
+    let sum = digits::number(&s[10..26]);
+    put_number(atutal::foot::judge(&s[26..], count, sum) as u64);
 }
 
 fn answer(command: u8, s: &[u8]) {
     let mut bytes = [0u8; 128];
     let mut numbers = [0u32; 16];
     match command {
-        b'd' => field(s),
-        b'c' => put_flag(digits::check::satisfies(s)),
-        b'e' => put_flag(digits::check::is_ean13(s)),
+        b'd' => decimal(s),
+        b'c' => put_flag(cdv::satisfies(s)),
+        b'e' => put_flag(cdv::is_ean13(s)),
         b'a' => account(s),
         b'n' => written(&mut bytes, s),
         b'x' => put_over(&mut bytes, s),
@@ -239,24 +200,10 @@ fn answer(command: u8, s: &[u8]) {
         b'w' => window(s),
         b'b' => banks(&mut numbers, s),
         b'k' => known(s),
-        b'p' => put_flag(lists::is_purpose(s)),
+        b'p' => put_flag(purposes::is_purpose(s)),
+        b'z' => foot(s),
         _ => put(b"?"),
     }
-}
-
-// Where the line that starts at a place ends: the place of its 0Ah, or of the end.
-fn line_end(s: &[u8], from: usize) -> usize
-    requires { ⌜ from ≤ length (now s) ⌝ }
-    ensures { λ r. ⌜ (from ≤ r) × (r ≤ length (now (s .entry))) ⌝ }
-{
-    let mut i = from;
-    while i < s.len() {
-        if s[i] == b'\n' {
-            return i;
-        }
-        i += 1;
-    }
-    i
 }
 
 fn line(s: &[u8]) {
@@ -271,7 +218,7 @@ fn line(s: &[u8]) {
 fn lines(s: &[u8]) {
     let mut at = 0;
     while at < s.len() {
-        let end = line_end(s, at);
+        let end = end_of(s, at, b'\n');
         line(&s[at..end]);
         at = end + 1;
     }

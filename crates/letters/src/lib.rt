@@ -35,7 +35,7 @@ fn hungarian(b: u8) -> u16
 }
 
 // The Unicode number of a byte of code page 852 that may stand in text, 0 for any other byte.
-pub fn unicode(b: u8) -> u16
+fn unicode(b: u8) -> u16
     ensures { λ r. ⌜ r ≡ unicode b ⌝ }
 {
     if (b >= 0x20) & (b <= 0x7e) {

@@ -6,7 +6,7 @@ use Rattle.base.specs.Bytes.{ascii}
 use Rattle.digits.specs.Digits.{figures}
 use Rattle.frame.specs.Records.{noId}
 use Rattle.judge.specs.Session.{none}
-use Rattle.rules.specs.declared.refusal.Refusal.the-variants.{NotADay, Overflow}
+use Rattle.findings.specs.declared.refusal.Refusal.the-variants.{NotADay, Overflow}
 use Rattle.lines.specs.Slip.{lineEnd, places, slipOf, refusalLine}
 use Rattle.lines.specs.Facts.{orderLine, addressLines, ownLines, countLines, statusText, itemLine}
 

@@ -6,8 +6,8 @@ use mathlib.Core.List.{List, [], _∷_, _++_}
 use lib.Dec.{ltb}
 use Rattle.base.specs.Bytes.{ascii}
 use Rattle.digits.specs.Digits.{figures}
-use Rattle.rules.specs.Refusals.{refusalNumber}
-use Rattle.rules.specs.declared.refusal.Refusal.{Refusal}
+use Rattle.findings.specs.Refusals.{refusalNumber}
+use Rattle.findings.specs.declared.refusal.Refusal.{Refusal}
 use Rattle.judge.specs.declared.Totals.{Totals}
 use Rattle.judge.specs.declared.Closing.{Closing}
 

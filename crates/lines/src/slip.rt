@@ -5,9 +5,9 @@ ghost use lib.ListN.{length};
 ghost use Rattle.digits.specs.Digits.{figures};
 ghost use Rattle.base.specs.Put.{Written, Put};
 ghost use Rattle.lines.specs.Slip.{places, codeWidth, line, totalsLine, slipOf, refusalLine};
+use findings::refusal::Refusal;
 use judge::Closing;
 use judge::Totals;
-use rules::refusal::Refusal;
 
 // How many digits a number has, 1 for 0.
 pub(crate) fn places(n: u64) -> usize
@@ -97,7 +97,7 @@ pub fn put_closing(out: &mut [u8], k: Closing) -> usize
 pub fn put_refusal(out: &mut [u8], r: Refusal) -> usize
     ensures { λ n. ⌜ Written (refusalLine r) (now (out .entry)) n (now (out .exit)) ⌝ }
 {
-    let n = rules::refusal::number(r) as u64;
+    let n = findings::refusal::number(r) as u64;
     let w = places(n);
     if out.len() < 9 + w {
         return 0;

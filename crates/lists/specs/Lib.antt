@@ -1,3 +1,2 @@
 pub mod Banks
 pub mod Known
-pub mod Purposes

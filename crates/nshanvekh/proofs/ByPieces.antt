@@ -12,7 +12,7 @@ use Rattle.lists.specs.Banks.{isBankList}
 use Rattle.lists.specs.Known.{isKnownList}
 use Rattle.frame.specs.Verdict.{verdict, tableAfter}
 use Rattle.frame.specs.Machine.{State, run, joined}
-use Rattle.rules.specs.Codes.{rules}
+use Rattle.atutal.specs.Codes.{rules}
 use Rattle.judge.specs.declared.Session.{Session}
 use Rattle.judge.specs.declared.Outcome.the-variants.{Done}
 use Rattle.judge.specs.declared.Judged.{Judged}

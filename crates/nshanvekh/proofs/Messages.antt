@@ -24,7 +24,7 @@ sizes ns k id f =
     (eqb-true (length ns) k (h .0), eqb-true (length id) 25 (h .1))
 
 module _ {m : List ℕ} {e : ℕ} {banks known t ns id : List ℕ} where
-  pub judge-wrong : not (sizedBoth ns 6 id) ≡ true → JudgedNumbers m e banks known t ns id 11 t ns id
+  pub judge-wrong : not (sizedBoth ns 6 id) ≡ true → JudgedNumbers m e banks known t ns id 99 t ns id
   judge-wrong f =
       let h = not-true (sizedBoth ns 6 id) f in
       record { answer = rw h; table = rw h; numbers = refl; identifier = refl }
@@ -42,7 +42,7 @@ module _ {m : List ℕ} {e : ℕ} {banks known t ns id : List ℕ} where
       }
 
 module _ {m : List ℕ} {e : ℕ} {banks known : List ℕ} {d n t : ℕ} {out ns : List ℕ} where
-  pub reply-wrong : (length ns ≡ 1 → ⊥) → RepliedAs m e banks known d n t out ns 11 out ns
+  pub reply-wrong : (length ns ≡ 1 → ⊥) → RepliedAs m e banks known d n t out ns 99 out ns
   reply-wrong h =
       let q = ne-eqb (length ns) 1 h in
       record { told = rw q; bytes = rw q; numbers = rw q }
@@ -58,7 +58,7 @@ module _ {m : List ℕ} {e : ℕ} {banks known : List ℕ} {d n t : ℕ} {out ns
       }
 
 module _ {x t ns id : List ℕ} where
-  pub status-wrong : not (sizedBoth ns 10 id) ≡ true → StatusAs x t ns id 11 t ns id
+  pub status-wrong : not (sizedBoth ns 10 id) ≡ true → StatusAs x t ns id 99 t ns id
   status-wrong f =
       let h = not-true (sizedBoth ns 10 id) f in
       record { answer = rw h; table = rw h; numbers = refl; identifier = refl }

@@ -9,7 +9,7 @@ use lib.Dec.{eqb}
 use lib.ListN.{length}
 use borrow.Author.Tests.{not-true, not-false, eq-eqb, ne-eqb, eqb-true}
 use Rattle.base.proofs.Every.{both}
-use Rattle.rules.specs.declared.refusal.Refusal.the-variants as refusal
+use Rattle.findings.specs.declared.refusal.Refusal.the-variants as refusal
 use Rattle.judge.specs.declared.Session.{Session}
 use Rattle.judge.specs.declared.Outcome.{Outcome}
 use Rattle.judge.specs.declared.Outcome.the-variants.{Done, Refused}
@@ -30,7 +30,7 @@ module _ {s : Session} {x : List ℕ} {b : Bool} {x′ : List ℕ} (h : length x
   held = ap unpacked packed-is ∙ p .back
 
 module _ {e : ℕ} {t x : List ℕ} where
-  pub open-wrong : (length x ≡ 344 → ⊥) → OpenedAs e t x 11 x
+  pub open-wrong : (length x ≡ 344 → ⊥) → OpenedAs e t x 99 x
   open-wrong h =
       let q = ne-eqb (length x) 344 h in
       record { answer = rw q; session = rw q; holds = λ k. absurd (h (eqb-true (length x) 344 k)) }
@@ -60,7 +60,7 @@ if-done (Refused refusal.Room) new old = refl
 if-done (Refused refusal.Malformed) new old = refl
 
 module _ {x p banks known t : List ℕ} where
-  pub piece-wrong : (length x ≡ 344 → ⊥) → PieceAs x p banks known t 11 x t
+  pub piece-wrong : (length x ≡ 344 → ⊥) → PieceAs x p banks known t 99 x t
   piece-wrong h =
       let q = ne-eqb (length x) 344 h in
       record { answer = rw q; session = refl; table = rw q; holds = λ k. absurd (omega arith) }
@@ -78,11 +78,11 @@ module _ {x p banks known t : List ℕ} where
 
 -- the number of a closing
 close-answer : (x ns id : List ℕ) → sizedAll x ns id ≡ true → (c : Closed) → c ≡ closedOf (unpacked x) → (n : ℕ) → n ≡ outcomeNumber (c .outcome)
-    → n ≡ cond (sizedAll x ns id) (outcomeNumber (closedOf (unpacked x) .outcome)) 11
+    → n ≡ cond (sizedAll x ns id) (outcomeNumber (closedOf (unpacked x) .outcome)) 99
 close-answer x ns id h c k n m = rw h (m ∙ ap (λ (y : Closed). outcomeNumber (y .outcome)) k)
 
 module _ {x ns id : List ℕ} where
-  pub close-wrong : not (sizedAll x ns id) ≡ true → ClosedAs x ns id 11 x ns id
+  pub close-wrong : not (sizedAll x ns id) ≡ true → ClosedAs x ns id 99 x ns id
   close-wrong f =
       let h = not-true (sizedAll x ns id) f in
       record { answer = rw h; session = rw h; numbers = refl; identifier = refl }

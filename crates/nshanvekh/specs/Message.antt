@@ -5,7 +5,7 @@ use Prim.Native.Nat.{ℕ}
 use mathlib.Core.Path.{_≡_}
 use mathlib.Core.Bool.{Bool, cond, _&&_}
 use mathlib.Core.List.{List, [], _∷_}
-use Rattle.rules.specs.Refusals.{refusalNumber}
+use Rattle.findings.specs.Refusals.{refusalNumber}
 use Rattle.judge.specs.Session.{outcomeNumber, judgedOf, tableJudged}
 use Rattle.status.specs.declared.Status.{Status}
 use Rattle.status.specs.declared.reply.Particulars.{Particulars}

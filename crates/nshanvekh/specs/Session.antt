@@ -16,7 +16,7 @@ sized x n = eqb (length x) n
 
 -- the refusal of a buffer of another size, before anything else
 abbrev pub wrongSize : ℕ
-wrongSize = 11
+wrongSize = 99
 
 -- what is written by a call whose number is 0, and stays as it was after any other
 abbrev pub ifDone : ℕ → List ℕ → List ℕ → List ℕ
@@ -49,7 +49,7 @@ pub record Told (n : ℕ) (k : Closing) (ns id : List ℕ) (r : ℕ) (ns′ id�
 abbrev pub sizedAll : List ℕ → List ℕ → List ℕ → Bool
 sizedAll x ns id = sized x 344 && (sized ns 6 && sized id 25)
 
--- closing: 0 and 6 leave a closed session, 5 and 11 the bytes that came
+-- closing: 0 and 6 leave a closed session, 5 and 99 the bytes that came
 pub record ClosedAs (x ns id : List ℕ) (r : ℕ) (x′ ns′ id′ : List ℕ) : Type 0 where
   pub answer : r ≡ cond (sizedAll x ns id) (outcomeNumber (closedOf (unpacked x) .outcome)) wrongSize
   pub session : x′ ≡ cond (sizedAll x ns id) (cond (eqb r 5) x (bytesOf (closedOf (unpacked x) .next))) x

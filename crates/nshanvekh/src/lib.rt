@@ -1,12 +1,12 @@
 // What a host links: the judge as functions over numbers and lent memory (include/nshanvekh.h says how C sees each call).
-// A session is 344 bytes that the host keeps. Buffers of a wrong size are refused with 11 before anything else.
+// A session is 344 bytes that the host keeps. Buffers of a wrong size are refused with 99 before anything else.
 ghost use mathlib.Core.Path.{_≡_};
 ghost use lib.ListN.{length};
-ghost use Rattle.rules.specs.Single.{singleAnswer};
+ghost use Rattle.single.specs.Single.{singleAnswer};
 ghost use Rattle.judge.specs.Session.{outcomeNumber};
 ghost use Rattle.nshanvekh.specs.Session.{OpenedAs, PieceAs, ClosedAs, Told};
 ghost use Rattle.nshanvekh.specs.Message.{JudgedNumbers, RepliedAs, StatusAs, StatusTold, ReplyTold};
-ghost use Rattle.answers.specs.Single.{singleNumber};
+ghost use Rattle.single.specs.Numbers.{singleNumber};
 use judge::Closing;
 use judge::Outcome;
 use judge::Session;
@@ -20,7 +20,7 @@ fn number_of(o: Outcome) -> u32
 {
     match o {
         Outcome::Done => 0,
-        Outcome::Refused(r) => rules::refusal::number(r) as u32,
+        Outcome::Refused(r) => findings::refusal::number(r) as u32,
     }
 }
 
@@ -45,13 +45,13 @@ fn tell(n: u32, k: Closing, numbers: &mut [u64], id: &mut [u8]) -> u32
     n
 }
 
-// A session is opened for a clearing day and a code table: refusals 11, 1, 4. After 1 and 4 the buffer holds a closed session.
+// A session is opened for a clearing day and a code table: refusals 99, 1, 4. After 1 and 4 the buffer holds a closed session.
 #[no_mangle]
 pub extern "C" fn nsh_open(day: u32, table: &[u8], session: &mut [u8]) -> u32
     ensures { λ r. ⌜ OpenedAs day (now (table .entry)) (now (session .entry)) r (now (session .exit)) ⌝ }
 {
     if session.len() != packed::BYTES {
-        return 11;
+        return 99;
     }
     let t = Session::open(day, table);
     let o = t.outcome;
@@ -60,7 +60,7 @@ pub extern "C" fn nsh_open(day: u32, table: &[u8], session: &mut [u8]) -> u32
     number_of(o)
 }
 
-// A piece is taken: refusals 11, 5, 2, 3, 4. A refusal leaves session and table as they were.
+// A piece is taken: refusals 99, 5, 2, 3, 4. A refusal leaves session and table as they were.
 #[no_mangle]
 pub extern "C" fn nsh_piece(
     session: &mut [u8],
@@ -72,18 +72,18 @@ pub extern "C" fn nsh_piece(
     ensures { λ r. ⌜ PieceAs (now (session .entry)) (now (bytes .entry)) (now (banks .entry)) (now (known .entry)) (now (table .entry)) r (now (session .exit)) (now (table .exit)) ⌝ }
 {
     if session.len() != packed::BYTES {
-        return 11;
+        return 99;
     }
     number_of(packed::take(session, bytes, banks, known, table))
 }
 
-// The message is over: refusals 11, 5, 6. 5 leaves all that is lent as it was, 6 closes the session and writes nothing else.
+// The message is over: refusals 99, 5, 6. 5 leaves all that is lent as it was, 6 closes the session and writes nothing else.
 #[no_mangle]
 pub extern "C" fn nsh_close(session: &mut [u8], numbers: &mut [u64], id: &mut [u8]) -> u32
     ensures { λ r. ⌜ ClosedAs (now (session .entry)) (now (numbers .entry)) (now (id .entry)) r (now (session .exit)) (now (numbers .exit)) (now (id .exit)) ⌝ }
 {
     if !((session.len() == packed::BYTES) & ((numbers.len() == 6) & (id.len() == 25))) {
-        return 11;
+        return 99;
     }
     let s = packed::unpack(session);
     let c = s.close();
@@ -98,7 +98,7 @@ pub extern "C" fn nsh_close(session: &mut [u8], numbers: &mut [u64], id: &mut [u
     tell(n, k, numbers, id)
 }
 
-// A whole message is judged: refusals 11, 1, 4, 2, 3, 6. Where it is refused, numbers and identifier stay as they were.
+// A whole message is judged: refusals 99, 1, 4, 2, 3, 6. Where it is refused, numbers and identifier stay as they were.
 #[no_mangle]
 pub extern "C" fn nsh_judge(
     message: &[u8],
@@ -112,9 +112,9 @@ pub extern "C" fn nsh_judge(
     ensures { λ r. ⌜ JudgedNumbers (now (message .entry)) day (now (banks .entry)) (now (known .entry)) (now (table .entry)) (now (numbers .entry)) (now (id .entry)) r (now (table .exit)) (now (numbers .exit)) (now (id .exit)) ⌝ }
 {
     if !((numbers.len() == 6) & (id.len() == 25)) {
-        return 11;
+        return 99;
     }
-    let j = judge::judge(day, banks, known, table, message);
+    let j = message::judge(day, banks, known, table, message);
     let o = j.outcome;
     let k = j.closing;
     tell(number_of(o), k, numbers, id)
@@ -125,7 +125,7 @@ pub extern "C" fn nsh_judge(
 pub extern "C" fn nsh_single(x: &[u8], day: u32, banks: &[u32], known: &[u8], place: u32) -> u32
     ensures { λ r. ⌜ r ≡ singleNumber (singleAnswer day (now (banks .entry)) (now (known .entry)) place (now (x .entry))) ⌝ }
 {
-    answers::number(rules::single::judge(x, place as u64, day, banks, known))
+    single::number(single::judge(x, place as u64, day, banks, known))
 }
 
 // The reply's length is written, or the refusal told.
@@ -134,7 +134,7 @@ fn tell_reply(a: Answer, numbers: &mut [u64]) -> u32
     ensures { λ r. ⌜ ReplyTold a (now (numbers .entry)) r (now (numbers .exit)) ⌝ }
 {
     match a {
-        Answer::Refused(r) => rules::refusal::number(r) as u32,
+        Answer::Refused(r) => findings::refusal::number(r) as u32,
         Answer::Written(n) => {
             numbers[0] = n as u64;
             0
@@ -142,7 +142,7 @@ fn tell_reply(a: Answer, numbers: &mut [u64]) -> u32
     }
 }
 
-// The reply to a whole message goes to the front of the output: refusals 11, 1, 2, 3, 6, 7, 8, 9.
+// The reply to a whole message goes to the front of the output: refusals 99, 1, 2, 3, 6, 7, 8, 9.
 #[no_mangle]
 pub extern "C" fn nsh_reply(
     message: &[u8],
@@ -158,7 +158,7 @@ pub extern "C" fn nsh_reply(
     ensures { λ r. ⌜ RepliedAs (now (message .entry)) day (now (banks .entry)) (now (known .entry)) duplicate number time (now (out .entry)) (now (numbers .entry)) r (now (out .exit)) (now (numbers .exit)) ⌝ }
 {
     if numbers.len() != 1 {
-        return 11;
+        return 99;
     }
     let p = Particulars {
         duplicate: duplicate,
@@ -196,7 +196,7 @@ fn tell_status(n: u32, s: Status, numbers: &mut [u64], id: &mut [u8]) -> u32
     n
 }
 
-// A STATUS is read: refusals 11, 10, 9. The k-th reference's code goes to byte k of the table; a refusal alters nothing.
+// A STATUS is read: refusals 99, 10, 9. The k-th reference's code goes to byte k of the table; a refusal alters nothing.
 #[no_mangle]
 pub extern "C" fn nsh_read_status(
     bytes: &[u8],
@@ -207,7 +207,7 @@ pub extern "C" fn nsh_read_status(
     ensures { λ r. ⌜ StatusAs (now (bytes .entry)) (now (table .entry)) (now (numbers .entry)) (now (id .entry)) r (now (table .exit)) (now (numbers .exit)) (now (id .exit)) ⌝ }
 {
     if !((numbers.len() == 10) & (id.len() == 25)) {
-        return 11;
+        return 99;
     }
     let x = reading::read_status(bytes, table);
     let o = x.outcome;

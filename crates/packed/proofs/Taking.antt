@@ -15,8 +15,8 @@ use Rattle.base.proofs.Over.{part}
 use Rattle.calendar.specs.Calendar.{isDate}
 use Rattle.lists.specs.Banks.{isBankList}
 use Rattle.lists.specs.Known.{isKnownList}
-use Rattle.rules.specs.declared.refusal.Refusal.{Refusal}
-use Rattle.rules.specs.declared.refusal.Refusal.the-variants as refusal
+use Rattle.findings.specs.declared.refusal.Refusal.{Refusal}
+use Rattle.findings.specs.declared.refusal.Refusal.the-variants as refusal
 use Rattle.judge.specs.declared.Tally.{Tally}
 use Rattle.judge.specs.declared.Session.{Session}
 use Rattle.judge.specs.declared.Outcome.the-variants.{Done, Refused}

@@ -17,12 +17,12 @@ ghost use Rattle.packed.specs.Packed.{
   TallyPut,
   SteppedIn,
 };
+use findings::refusal::Refusal;
 use judge::Outcome;
 use judge::Session;
 use judge::Step;
 use judge::Tally;
 use judge::Totals;
-use rules::refusal::Refusal;
 
 // The bytes of a packed session.
 pub const BYTES: usize = 344;

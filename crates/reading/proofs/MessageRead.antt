@@ -12,7 +12,8 @@ use borrow.Author.Tests.{le-leb, eq-eqb}
 use Rattle.base.specs.Bytes.{field}
 use Rattle.digits.specs.Digits.{numberOf}
 use Rattle.status.specs.declared.Status.{Status}
-use Rattle.status.specs.Records.{headRecord, reference, references, footRecord, written, isDuplicate, isAddress}
+use Rattle.status.specs.Records.{headRecord, reference, references, footRecord, written, isAddress}
+use Rattle.fields.specs.Fields.{isDuplicate}
 use Rattle.status.specs.Writing.{Writable}
 use Rattle.reading.specs.Reading.{countOf, partsOf, headIn, referencesIn, footIn, headRight, referencesRight, footRight, codesIn, statusIn, countsRight, isStatus}
 use Rattle.status.proofs.Lengths.{Items, head-length, reference-length, references-length, written-length}

@@ -19,16 +19,17 @@ use Rattle.frame.specs.Records.{atutal, headStands, itemsOf}
 use Rattle.frame.specs.Verdict.{Rules, Verdict, blank, counted, accepted, refused, foundIn, messageCode, identifier, overflows}
 use Rattle.frame.proofs.Faults.{faultless, all-items}
 use Rattle.frame.proofs.Tally.{findings-length}
-use Rattle.rules.specs.Codes.{rules}
-use Rattle.rules.specs.declared.refusal.Refusal.{Refusal}
-use Rattle.rules.specs.declared.refusal.Refusal.the-variants.{NotADay, BankList, KnownList, Overflow, Address, Particulars as WrongParticulars, Room}
+use Rattle.atutal.specs.Codes.{rules}
+use Rattle.findings.specs.declared.refusal.Refusal.{Refusal}
+use Rattle.findings.specs.declared.refusal.Refusal.the-variants.{NotADay, BankList, KnownList, Overflow, Address, Particulars as WrongParticulars, Room}
 use Rattle.judge.specs.declared.Outcome.the-variants.{Done}
 use Rattle.judge.specs.Session.{closingOf}
 use Rattle.status.specs.declared.Status.{Status}
 use Rattle.status.specs.declared.reply.Particulars.{Particulars}
 use Rattle.status.specs.declared.reply.Answer.{Answer}
 use Rattle.status.specs.declared.reply.Answer.the-variants.{Written, Refused}
-use Rattle.status.specs.Records.{isDuplicate, isAddress}
+use Rattle.status.specs.Records.{isAddress}
+use Rattle.fields.specs.Fields.{isDuplicate}
 use Rattle.status.specs.Reply.{hasAddress, areParticulars, saying, room, referred, said, reply, answer, output}
 use Rattle.reading.specs.Reading.{zerosIn, othersIn, countOf, codesIn, statusIn, countsRight, isStatus, readOf, tableRead}
 use Rattle.status.proofs.Bounds.{verdict-is, writable, said-referable, referred-length, referred-codes}

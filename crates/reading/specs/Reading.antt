@@ -12,11 +12,12 @@ use Rattle.frame.specs.Records.{noId, ended}
 use Rattle.judge.specs.Session.{none}
 use Rattle.judge.specs.declared.Outcome.{Outcome}
 use Rattle.judge.specs.declared.Outcome.the-variants.{Done, Refused}
-use Rattle.rules.specs.declared.refusal.Refusal.{Refusal}
-use Rattle.rules.specs.declared.refusal.Refusal.the-variants.{Room, Malformed}
+use Rattle.findings.specs.declared.refusal.Refusal.{Refusal}
+use Rattle.findings.specs.declared.refusal.Refusal.the-variants.{Room, Malformed}
 use Rattle.status.specs.declared.Status.{Status}
 use Rattle.reading.specs.declared.Read.{Read}
-use Rattle.status.specs.Records.{isDuplicate, isAddress}
+use Rattle.status.specs.Records.{isAddress}
+use Rattle.fields.specs.Fields.{isDuplicate}
 
 -- how many references a STATUS has by its length: 56 bytes of head, 65 each, 48 of foot
 abbrev pub countOf : List ℕ → ℕ

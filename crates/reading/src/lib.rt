@@ -17,9 +17,9 @@ ghost use Rattle.reading.specs.Reading.{
   ReadAs,
 };
 ghost use Rattle.reading.specs.Checking.{hasLengths, partsRight, referredOf, totalsAt, countsAre};
+use findings::refusal::Refusal;
 use judge::Outcome;
 use judge::Totals;
-use rules::refusal::Refusal;
 use status::Status;
 
 // What reading gives: zeros and spaces where it is refused.
@@ -73,7 +73,7 @@ fn is_head(h: &[u8]) -> bool
     ensures { λ r. ⌜ r ≡ headRight (now (h .entry)) ⌝ }
 {
     is_mark(&h[0..8], b"01STATUS")
-        & (status::is_duplicate(h[8])
+        & (fields::is_duplicate(h[8])
             & (text::is_plain(&h[9..34])
                 & (digits::is_digits(&h[34..54]) & frame::has_ending(h, 54))))
 }

@@ -4,10 +4,10 @@
 ghost use Prim.Native.Nat.{_≤_};
 ghost use Rattle.io.specs.Counts.{Counts};
 use files::Given;
+use findings::refusal::Refusal;
 use libc::STDERR_FILENO;
 use libc::STDIN_FILENO;
 use libc::STDOUT_FILENO;
-use rules::refusal::Refusal;
 use status::reply::Answer;
 use status::reply::Particulars;
 

@@ -20,12 +20,12 @@ use Rattle.frame.proofs.Uncut.{ended-long}
 use Rattle.frame.proofs.Whole.{uncut}
 use Rattle.frame.proofs.Tally.{findings-length}
 use Rattle.frame.proofs.Faults.{all-items}
-use Rattle.rules.specs.Codes.{rules}
-use Rattle.rules.proofs.Bounds.{small}
+use Rattle.atutal.specs.Codes.{rules}
+use Rattle.atutal.proofs.Bounds.{small}
 use Rattle.judge.proofs.Valid.{Valid}
 use Rattle.judge.proofs.Ranges.{kept-run, kept-fresh}
 use Rattle.status.specs.declared.reply.Particulars.{Particulars}
-use Rattle.status.specs.Records.{isDuplicate}
+use Rattle.fields.specs.Fields.{isDuplicate}
 use Rattle.status.specs.Reply.{isTime, areParticulars, room, verdictOf, referred, said}
 use Rattle.status.specs.Writing.{Writable, Referable}
 use Rattle.status.proofs.Lengths.{Items}

@@ -9,9 +9,9 @@ use Rattle.calendar.specs.Calendar.{isDate}
 use Rattle.lists.specs.Banks.{isBankList}
 use Rattle.lists.specs.Known.{isKnownList}
 use Rattle.frame.specs.Verdict.{Rules, blank, counted, foundIn, messageCode, identifier, overflows, verdict, tableAfter}
-use Rattle.rules.specs.Codes.{rules}
-use Rattle.rules.specs.declared.refusal.Refusal.{Refusal}
-use Rattle.rules.specs.declared.refusal.Refusal.the-variants as refusal
+use Rattle.atutal.specs.Codes.{rules}
+use Rattle.findings.specs.declared.refusal.Refusal.{Refusal}
+use Rattle.findings.specs.declared.refusal.Refusal.the-variants as refusal
 use Rattle.judge.specs.declared.Outcome.{Outcome}
 use Rattle.judge.specs.declared.Outcome.the-variants.{Done, Refused}
 use Rattle.judge.specs.declared.Judged.{Judged}

@@ -13,7 +13,7 @@ use Rattle.base.specs.Bytes.{field}
 use Rattle.base.proofs.Every.{both}
 use Rattle.frame.specs.Records.{atutal, idOf, itemsOf}
 use Rattle.frame.specs.Verdict.{overflows, tableAfter}
-use Rattle.rules.specs.Codes.{rules}
+use Rattle.atutal.specs.Codes.{rules}
 use Rattle.status.specs.declared.reply.Particulars.{Particulars}
 use Rattle.status.specs.Records.{references, written}
 use Rattle.status.specs.Reply.{hasAddress, room, referred, said, reply}

@@ -13,7 +13,7 @@ use Rattle.lists.specs.Banks.{isBankList}
 use Rattle.lists.specs.Known.{isKnownList}
 use Rattle.frame.specs.Verdict.{Rules, Verdict, foundIn, overflows, verdict, tableAfter}
 use Rattle.frame.specs.Machine.{joined}
-use Rattle.rules.specs.Codes.{rules}
+use Rattle.atutal.specs.Codes.{rules}
 use Rattle.judge.specs.declared.Closed.{Closed}
 use Rattle.judge.specs.Session.{opened, closingOf, closedOf}
 use Rattle.judge.specs.Feeding.{fed}

@@ -1,10 +1,9 @@
 -- The records of a STATUS message, each with its ending (002 sections 3.1 to 3.3; 01, Records).
 -- Assumes nothing.
 use Prim.Native.Nat.{ℕ, _+_}
-use mathlib.Core.Bool.{Bool, _||_}
+use mathlib.Core.Bool.{Bool}
 use mathlib.Core.List.{List, [], _∷_, _++_}
 use lib.ListN.{replicate}
-use lib.Dec.{eqb}
 use Rattle.base.specs.Bytes.{ascii, field}
 use Rattle.text.specs.Text.{isPlain}
 use Rattle.digits.specs.Digits.{figures}
@@ -55,10 +54,6 @@ footRecord s =
 -- the head, a reference for each item with its code, the foot
 unfoldable pub written : Status → List ℕ → List (List ℕ) → List ℕ
 written s codes items = headRecord s ++ references 1 codes items ++ footRecord s
-
--- the duplicate code of a STATUS is 0 or @ (01, refusal 8)
-unfoldable pub isDuplicate : ℕ → Bool
-isDuplicate b = eqb b 0x30 || eqb b 0x40
 
 -- the bytes of positions 10-34 (01, refusal 7)
 abbrev pub isAddress : List ℕ → Bool

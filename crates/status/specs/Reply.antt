@@ -12,15 +12,16 @@ use Rattle.lists.specs.Banks.{isBankList}
 use Rattle.lists.specs.Known.{isKnownList}
 use Rattle.frame.specs.Records.{atutal, itemsOf}
 use Rattle.frame.specs.Verdict.{Verdict, foundIn, overflows, verdict}
-use Rattle.rules.specs.Codes.{rules}
-use Rattle.rules.specs.declared.refusal.Refusal.the-variants.{NotADay, BankList, KnownList, Overflow, Address, Particulars as WrongParticulars, Room}
+use Rattle.atutal.specs.Codes.{rules}
+use Rattle.findings.specs.declared.refusal.Refusal.the-variants.{NotADay, BankList, KnownList, Overflow, Address, Particulars as WrongParticulars, Room}
 use Rattle.judge.specs.declared.Closing.{Closing}
 use Rattle.judge.specs.Session.{most, closingOf}
 use Rattle.status.specs.declared.Status.{Status}
 use Rattle.status.specs.declared.reply.Particulars.{Particulars}
 use Rattle.status.specs.declared.reply.Answer.{Answer}
 use Rattle.status.specs.declared.reply.Answer.the-variants.{Written, Refused}
-use Rattle.status.specs.Records.{written, isDuplicate, isAddress}
+use Rattle.status.specs.Records.{written, isAddress}
+use Rattle.fields.specs.Fields.{isDuplicate}
 
 -- refusal 7: the message has an address for the reply
 unfoldable pub hasAddress : List ℕ → Bool

@@ -1,6 +1,4 @@
 // The STATUS message: what it says, and the reply to a message, written (`reply`).
-ghost use mathlib.Core.Path.{_≡_};
-ghost use Rattle.status.specs.Records.{isDuplicate};
 use judge::Totals;
 
 pub mod reply;
@@ -17,11 +15,4 @@ pub struct Status {
     pub accepted: Totals,
     pub refused: Totals,
     pub references: usize,
-}
-
-// The duplicate code of a STATUS: 0 or @.
-pub fn is_duplicate(b: u8) -> bool
-    ensures { λ r. ⌜ r ≡ isDuplicate b ⌝ }
-{
-    (b == b'0') | (b == b'@')
 }

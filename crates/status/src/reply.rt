@@ -9,9 +9,9 @@ ghost use Rattle.status.specs.Records.{headRecord, reference, references
 ghost use Rattle.status.specs.Reply.{hasAddress, isTime, areParticulars, saying, Replied};
 ghost use Rattle.status.specs.Writing.{address, own, totals, Countable, Writable, Referable};
 use crate::Status;
+use findings::refusal::Refusal;
 use judge::Outcome;
 use judge::Totals;
-use rules::refusal::Refusal;
 
 // What the caller says of a reply beside its date: duplicate code 0 or @, number to 9999, time hhmmss.
 pub struct Particulars {
@@ -160,7 +160,7 @@ fn is_time(t: u32) -> bool
 fn are_particulars(p: Particulars) -> bool
     ensures { λ r. ⌜ r ≡ areParticulars p ⌝ }
 {
-    crate::is_duplicate(p.duplicate) & ((p.number <= 9999) & is_time(p.time))
+    fields::is_duplicate(p.duplicate) & ((p.number <= 9999) & is_time(p.time))
 }
 
 // What a reply says, with a reference for each item that the closing counts.
@@ -195,7 +195,7 @@ pub fn write(
     ensures { λ r. ⌜ Replied day (now (banks .entry)) (now (known .entry)) (now (message .entry)) particulars (now (out .entry)) r (now (out .exit)) ⌝ }
 {
     let mut codes = [0u8; 10000];
-    let j = judge::judge(day, banks, known, &mut codes, message);
+    let j = message::judge(day, banks, known, &mut codes, message);
     let o = j.outcome;
     let c = j.closing;
     match o {

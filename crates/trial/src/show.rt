@@ -1,14 +1,5 @@
 // Answers on standard output, each number after a space.
-use libc::STDOUT_FILENO;
-
-pub(crate) fn put(s: &[u8]) {
-    io::write_all(STDOUT_FILENO, s);
-}
-
-pub(crate) fn put_number(n: u64) {
-    put(b" ");
-    io::print_decimal(STDOUT_FILENO, n);
-}
+use script::put_number;
 
 pub(crate) fn put_numbers(s: &[u64]) {
     let mut i = 0;
@@ -18,20 +9,24 @@ pub(crate) fn put_numbers(s: &[u64]) {
     }
 }
 
-fn wide(b: u8) -> u64 {
-    b as u64
-}
-
 // The sum of the bytes, and the sum of the sums of all beginnings.
 pub(crate) fn put_sums(s: &[u8]) {
     let mut sum: u64 = 0;
     let mut all: u64 = 0;
     let mut i = 0;
     while i < s.len() {
-        sum = std::num::wrapping_add_u64(sum, wide(s[i]));
+        sum = std::num::wrapping_add_u64(sum, s[i] as u64);
         all = std::num::wrapping_add_u64(all, sum);
         i += 1;
     }
     put_number(sum);
     put_number(all);
+}
+
+// The number of a call, and what stands in the numbers, the identifier and the table that it was lent.
+pub(crate) fn put_lent(n: u32, numbers: &[u64], id: &[u8], table: &[u8]) {
+    put_number(n as u64);
+    put_numbers(numbers);
+    put_sums(id);
+    put_sums(table);
 }

@@ -1,15 +1,23 @@
-// The words of a script: numbers, sizes, lists, and texts made of a base text.
-ghost use Prim.Native.Nat.{_+_, _≤_};
+// The words of a script: sizes, lists, and texts, built by lines or made of a base text.
+ghost use Prim.Native.Nat.{_+_, _-_, _≤_};
 ghost use lib.ListN.{length};
+ghost use Rattle.io.specs.Counts.{Counts};
+use script::end_of;
+use script::field;
 
-// The most bytes of a text.
-pub(crate) const MOST: usize = 8192;
-
-// The memory that a text is made in.
-pub(crate) type Text = [u8; MOST];
-
-// The memory of a code table: one byte more than 01 lets a table have.
-pub(crate) const TABLE: usize = 10001;
+// What the script has set: the clearing day, where the lists start in the script, the length of the base text, how the sizes of session,
+// numbers and identifier lie to the right ones, as three digits, and a reply's particulars and output.
+pub(crate) struct Given {
+    pub(crate) day: u32,
+    pub(crate) banks: usize,
+    pub(crate) known: usize,
+    pub(crate) base: usize,
+    pub(crate) sizes: u32,
+    pub(crate) duplicate: u8,
+    pub(crate) number: u32,
+    pub(crate) time: u32,
+    pub(crate) room: usize,
+}
 
 // The size of a buffer that is to have so many elements, by the last digit of a number: 0 one too few, 2 one too many, else right.
 pub(crate) fn size(right: usize, sign: u32) -> usize
@@ -23,13 +31,9 @@ pub(crate) fn size(right: usize, sign: u32) -> usize
     }
 }
 
-pub(crate) fn small(s: &[u8]) -> u32 {
-    (digits::number(s) % 4294967296) as u32
-}
-
 // The lesser of two: where a part ends that doesn't go beyond the whole.
 pub(crate) fn least(a: usize, whole: usize) -> usize
-    ensures { λ r. ⌜ r ≤ whole ⌝ }
+    ensures { λ r. ⌜ (r ≤ a) × (r ≤ whole) ⌝ }
 {
     if a > whole {
         return whole;
@@ -37,8 +41,19 @@ pub(crate) fn least(a: usize, whole: usize) -> usize
     a
 }
 
+// So many bytes after a place, or at the end.
+pub(crate) fn ahead(at: usize, n: usize, len: usize) -> usize
+    requires { ⌜ at ≤ len ⌝ }
+    ensures { λ r. ⌜ (at ≤ r) × (r ≤ len) × (at + n ≤ r + (at + n - len)) ⌝ }
+{
+    if len - at < n {
+        return len;
+    }
+    at + n
+}
+
 // The place, or the nearest one from a first to a last.
-pub(crate) fn between(first: usize, place: usize, last: usize) -> usize
+fn between(first: usize, place: usize, last: usize) -> usize
     requires { ⌜ first ≤ last ⌝ }
     ensures { λ r. ⌜ (first ≤ r) × (r ≤ last) ⌝ }
 {
@@ -51,111 +66,134 @@ pub(crate) fn between(first: usize, place: usize, last: usize) -> usize
     place
 }
 
-// The number in a field of a line, 0 where the line is shorter.
-pub(crate) fn field(r: &[u8], from: usize, end: usize) -> usize
-    requires { ⌜ from ≤ end ⌝ }
+// The numbers of ten digits each, as many as the list has room for: how many there are.
+pub(crate) fn fill(list: &mut [u32], s: &[u8]) -> usize
+    ensures { λ r. ⌜ Counts r (now (list .exit)) ⌝ }
 {
-    if end > r.len() {
-        return 0;
-    }
-    digits::number(&r[from..end]) as usize
-}
-
-// Where what starts at a place ends: the place of the next such byte, or the end.
-pub(crate) fn end_of(s: &[u8], from: usize, b: u8) -> usize
-    requires { ⌜ from ≤ length (now s) ⌝ }
-    ensures { λ r. ⌜ (from ≤ r) × (r ≤ length (now (s .entry))) ⌝ }
-{
-    let mut i = from;
-    while i < s.len() {
-        if s[i] == b {
-            return i;
-        }
-        i += 1;
-    }
-    i
-}
-
-// The numbers of ten digits each, at most forty: how many there are.
-pub(crate) fn fill(list: &mut [u32; 40], s: &[u8]) -> usize {
     let mut i = 0;
-    while i < 40 {
+    while i < list.len() {
         if i >= s.len() / 10 {
             return i;
         }
         let at = i * 10;
-        list[i] = small(&s[at..at + 10]);
+        list[i] = field(s, at, at + 10);
         i += 1;
     }
     i
 }
 
-// Bytes are put into the text from a place on, if there is room: the place after them.
-pub(crate) fn append(text: &mut Text, from: usize, r: &[u8]) -> usize {
-    if from > MOST {
+// Bytes are put into the memory from a place on, if there is room: the place after them.
+fn append(memory: &mut [u8], from: usize, r: &[u8]) -> usize {
+    if from > memory.len() {
         return from;
     }
-    if MOST - from < r.len() {
+    if memory.len() - from < r.len() {
         return from;
     }
-    let mut i = 0;
-    while i < r.len() {
-        let at = from + i;
-        text[at] = r[i];
-        i += 1;
-    }
-    from + i
+    text::put(&mut memory[from..], r);
+    from + r.len()
 }
 
-// A hexadecimal digit, 0 for another byte.
-fn nibble(b: u8) -> u8
-    ensures { λ r. ⌜ r ≤ 15 ⌝ }
+// A number of so many digits, some bytes after a place.
+fn number(memory: &mut [u8], from: usize, shift: usize, w: usize, n: u64) {
+    if from > memory.len() {
+        return;
+    }
+    if memory.len() - from < shift {
+        return;
+    }
+    let at = from + shift;
+    digits::put_number(&mut memory[at..], w, n);
+}
+
+// The bytes of a line and its ending: 0Ah after /, 0Dh 0Ah after +, else none.
+pub(crate) fn add(memory: &mut [u8], at: usize, kind: u8, r: &[u8]) -> usize {
+    let end = append(memory, at, r);
+    if kind == b'/' {
+        return append(memory, end, b"\n");
+    }
+    if kind == b'+' {
+        return append(memory, end, b"\r\n");
+    }
+    end
+}
+
+// Bytes and an ending so many times, each time with its own number over them.
+fn repeated(
+    memory: &mut [u8],
+    start: usize,
+    count: u64,
+    shift: usize,
+    w: usize,
+    kind: u8,
+    r: &[u8],
+) -> usize {
+    let mut at = start;
+    let mut k = 0;
+    while k < count {
+        let end = add(memory, at, kind, r);
+        k += 1;
+        number(memory, at, shift, w, k);
+        at = end;
+    }
+    at
+}
+
+// A line of many: six digits count, a digit where the number stands, a digit how many digits it has, the kind of ending, the bytes.
+pub(crate) fn add_many(memory: &mut [u8], at: usize, r: &[u8]) -> usize {
+    if r.len() < 9 {
+        return at;
+    }
+    let shift = field(r, 6, 7) as usize;
+    let w = field(r, 7, 8) as usize;
+    repeated(memory, at, field(r, 0, 6) as u64, shift, w, r[8], &r[9..])
+}
+
+// A hexadecimal digit, 0 to 9 and a to f; of another byte a number that means nothing.
+fn nibble(b: u8) -> usize
+    ensures { λ r. ⌜ r ≤ 42 ⌝ }
 {
-    match b {
-        b'0'..=b'9' => b - b'0',
-        b'a'..=b'f' => b - b'a' + 10,
-        _ => 0,
-    }
+    (b % 16 + b / 64 * 9) as usize
 }
 
-fn byte(high: u8, low: u8) -> u8 {
-    nibble(high) * 16 + nibble(low)
-}
-
-// Bytes of two hexadecimal digits each are put into the text from a place on, if there is room: the place after them.
-fn append_hex(text: &mut Text, from: usize, r: &[u8]) -> usize {
-    if from > MOST {
-        return from;
-    }
-    let mut i = 0;
-    while i < MOST - from {
-        if i >= r.len() / 2 {
-            return from + i;
+// The bytes that stand between two places of a line, two hexadecimal digits each, are put into the text from a place on, as far as there is
+// room: the place after them.
+fn append_hex(text: &mut [u8], from: usize, r: &[u8], start: usize, end: usize) -> usize
+    requires { ⌜ end ≤ length (now r) ⌝ }
+{
+    let mut at = from;
+    let mut k = start;
+    while k < end {
+        if end - k < 2 {
+            return at;
         }
-        let k = i * 2;
-        let at = from + i;
-        text[at] = byte(r[k], r[k + 1]);
-        i += 1;
+        if at >= text.len() {
+            return at;
+        }
+        text[at] = ((nibble(r[k]) * 16 + nibble(r[k + 1])) % 256) as u8;
+        at += 1;
+        k += 2;
     }
-    from + i
+    at
 }
 
 // The base text with the changes of a line, in ascending order, each a space, four digits k, four digits n and the bytes that stand in place
 // of the n after the base's first k: the length of the text.
-pub(crate) fn changed(text: &mut Text, base: &[u8], r: &[u8]) -> usize {
+pub(crate) fn changed(text: &mut [u8], base: &[u8], r: &[u8]) -> usize
+    ensures { λ n. ⌜ Counts n (now (text .exit)) ⌝ }
+{
     let mut at = 0;
     let mut from = 0;
     let mut i = 0;
     while i < r.len() {
         let end = end_of(r, i + 1, b' ');
-        let w = &r[i..end];
-        let first = between(from, field(w, 1, 5), base.len());
-        let gone = least(field(w, 5, 9), base.len() - first);
-        let bytes = least(9, w.len());
+        let first = between(from, field(r, i + 1, i + 5) as usize, base.len());
+        let gone = field(r, i + 5, i + 9) as usize;
         at = append(text, at, &base[from..first]);
-        at = append_hex(text, at, &w[bytes..]);
-        from = first + gone;
+        at = append_hex(text, at, r, i + 9, end);
+        from = ahead(first, gone, base.len());
         i = end;
     }
-    append(text, at, &base[from..])
+    let n = append(text, at, &base[from..]);
+    least(n, text.len())
 }

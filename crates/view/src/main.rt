@@ -3,9 +3,9 @@
 // folder where it runs, as for the slip (01, Examples).
 ghost use Rattle.io.specs.Counts.{Counts};
 
-mod answers;
 mod breaks;
 mod records;
+mod told;
 mod words;
 
 use crate::words::put;
@@ -170,15 +170,15 @@ fn put_closing(k: Closing) {
     put(b"\n");
 }
 
-fn put_refusal(r: rules::refusal::Refusal) {
+fn put_refusal(r: findings::refusal::Refusal) {
     put(b"REFUSAL ");
-    put_number(rules::refusal::number(r) as u64);
+    put_number(findings::refusal::number(r) as u64);
     put(b"\n");
 }
 
 fn put_verdict(message: &[u8], day: u32, banks: &[u32], known: &[u8]) {
     let mut table = [0u8; Session::MOST];
-    let j = judge::judge(day, banks, known, &mut table, message);
+    let j = message::judge(day, banks, known, &mut table, message);
     let o = j.outcome;
     let k = j.closing;
     match o {
@@ -222,12 +222,21 @@ fn answered(day: &[u8], banks: &[u8], known: &[u8]) {
     }
 }
 
+// The files are read into the spaces that are lent.
+fn read_files(day: &mut [u8], banks: &mut [u8], known: &mut [u8]) {
+    let d = read_file(b"day", day);
+    let b = read_file(b"banks", banks);
+    let k = read_file(b"known", known);
+    answered(&day[..d], &banks[..b], &known[..k]);
+}
+
+fn lent(day: &mut [u8; SPACE], banks: &mut [u8; SPACE], known: &mut [u8; SPACE]) {
+    read_files(day, banks, known);
+}
+
 fn main() {
     let mut day = [0u8; SPACE];
     let mut banks = [0u8; SPACE];
     let mut known = [0u8; SPACE];
-    let d = read_file(b"day", &mut day);
-    let b = read_file(b"banks", &mut banks);
-    let k = read_file(b"known", &mut known);
-    answered(&day[..d], &banks[..b], &known[..k]);
+    lent(&mut day, &mut banks, &mut known);
 }

@@ -1,8 +1,8 @@
 // Records and their fields on standard output (01, Records).
-ghost use Prim.Native.Nat.{_≤_};
-ghost use lib.ListN.{length};
-use crate::answers;
+use crate::told;
+use crate::words::filled;
 use crate::words::put;
+use crate::words::put_field;
 use crate::words::put_number;
 
 // The most bytes that a field of 70 bytes is shown by.
@@ -32,20 +32,6 @@ pub(crate) fn bytes(message: &[u8], start: usize, next: usize) -> &[u8] {
     &message[start..end]
 }
 
-// How long a field is without the spaces at its end.
-fn filled(s: &[u8]) -> usize
-    ensures { λ r. ⌜ r ≤ length (now (s .entry)) ⌝ }
-{
-    let mut n = s.len();
-    while n > 0 {
-        if s[n - 1] != b' ' {
-            return n;
-        }
-        n -= 1;
-    }
-    n
-}
-
 fn put_letters(s: &[u8]) {
     let mut out = [0u8; SHOWN];
     let n = letters::put(&mut out, s);
@@ -70,55 +56,40 @@ fn put_text(s: &[u8]) {
     put(b"\n");
 }
 
-// A field's name; the last of its positions.
-fn named(name: &[u8], last: usize) -> usize {
+// A field's name, and the last of its positions: the i-th of a record.
+fn named(numbers: &[usize], lasts: &[usize], i: usize) -> usize {
     put(b"  ");
-    put(name);
-    last
+    if i >= numbers.len() {
+        return 0;
+    }
+    if i >= lasts.len() {
+        return 0;
+    }
+    put_field(numbers[i]);
+    lasts[i]
 }
 
-// The fields of a head, from 0: name and last position. Each begins after the one before it.
+// The fields of a head, from 0: number and last position. Each begins after the one before it.
 fn head_field(i: usize) -> usize {
-    match i {
-        0 => named(b"type", 2),
-        1 => named(b"message type", 8),
-        2 => named(b"duplicate code", 9),
-        3 => named(b"initiator", 22),
-        4 => named(b"date", 30),
-        5 => named(b"number", 34),
-        6 => named(b"bank", 42),
-        7 => named(b"account", 58),
-        8 => named(b"debit date", 66),
-        9 => named(b"purpose", 69),
-        10 => named(b"name", 104),
-        _ => named(b"remark", 174),
-    }
+    named(
+        &[1, 2, 3, 4, 6, 7, 8, 9, 10, 11, 12, 13],
+        &[2, 8, 9, 22, 30, 34, 42, 58, 66, 69, 104, 174],
+        i,
+    )
 }
 
 // The fields of an item.
 fn item_field(i: usize) -> usize {
-    match i {
-        0 => named(b"type", 2),
-        1 => named(b"item number", 8),
-        2 => named(b"credit date", 16),
-        3 => named(b"amount", 26),
-        4 => named(b"bank", 34),
-        5 => named(b"account", 50),
-        6 => named(b"customer id", 74),
-        7 => named(b"name", 109),
-        8 => named(b"address", 144),
-        9 => named(b"account owner", 179),
-        _ => named(b"remark", 249),
-    }
+    named(
+        &[1, 14, 19, 15, 8, 9, 16, 12, 17, 18, 13],
+        &[2, 8, 16, 26, 34, 50, 74, 109, 144, 179, 249],
+        i,
+    )
 }
 
 // The fields of a foot.
 fn foot_field(i: usize) -> usize {
-    match i {
-        0 => named(b"type", 2),
-        1 => named(b"item count", 8),
-        _ => named(b"sum", 24),
-    }
+    named(&[1, 20, 21], &[2, 8, 24], i)
 }
 
 // A record, by how many fields its kind has.
@@ -169,16 +140,19 @@ fn put_fields(r: &[u8], fields: usize) {
 // A head: its fields, and its answer.
 pub(crate) fn put_head(r: &[u8], day: u32, banks: &[u32], known: &[u8]) {
     put_fields(r, 12);
-    let h = rules::head::judge(r, day, banks, known);
-    answers::put_head(rules::single::judge(r, 0, day, banks, known), h.code);
+    let h = heads::judge(r, day, banks, known);
+    told::put_head(
+        single::number(single::judge(r, 0, day, banks, known)) as usize,
+        h.code,
+    );
 }
 
 // The item at place k: its fields, its answer, and the zero watch; its amount.
 pub(crate) fn put_item(r: &[u8], k: u64, day: u32, banks: &[u32], known: &[u8]) -> u64 {
     put_fields(r, 11);
-    let f = rules::item::judge(r, k, banks);
-    answers::put_item(
-        rules::single::judge(r, k, day, banks, known),
+    let f = atutal::item::judge(r, k, banks);
+    told::put_item(
+        single::number(single::judge(r, k, day, banks, known)) as usize,
         f.fault,
         f.code,
     );
@@ -201,7 +175,7 @@ fn put_given(count: u64, sum: u64) {
 pub(crate) fn put_foot(r: &[u8], count: u64, sum: u64) {
     put_fields(r, 3);
     put_given(count, sum);
-    match rules::foot::judge(r, count, sum) {
+    match atutal::foot::judge(r, count, sum) {
         0 => put(b"  no fault\n"),
         18 => put(
             b"  FAULT item count: not what the items give (code 18, the message is refused)\n",

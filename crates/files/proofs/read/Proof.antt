@@ -8,7 +8,7 @@ use lib.Dec.{eqb}
 use lib.ListN.{length}
 use borrow.Author.Tests.{eq-eqb, ne-eqb, not-true, not-false}
 use Rattle.base.specs.Bytes.{over}
-use Rattle.rules.specs.declared.refusal.Refusal.the-variants as refusal
+use Rattle.findings.specs.declared.refusal.Refusal.the-variants as refusal
 use Rattle.files.specs.declared.Given.the-variants.{Files, Refused}
 use Rattle.files.specs.Files.{dayOf, numbers, isBanks, isKnownFile, givenBy, ReadAs}
 use Rattle.files.proofs.Says.{banks-fit}

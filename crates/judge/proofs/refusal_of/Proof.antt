@@ -8,7 +8,7 @@ use lib.ListN.{length}
 use borrow.Author.Tests.{not-true, not-false, eq-eqb, ne-eqb}
 use Rattle.lists.specs.Banks.{isBankList}
 use Rattle.lists.specs.Known.{isKnownList}
-use Rattle.rules.specs.declared.refusal.Refusal.the-variants as refusal
+use Rattle.findings.specs.declared.refusal.Refusal.the-variants as refusal
 use Rattle.judge.specs.declared.Session.{Session}
 use Rattle.judge.specs.declared.Outcome.the-variants.{Done, Refused}
 use Rattle.judge.specs.Session.{inRange, partsOf}

@@ -11,9 +11,9 @@ use borrow.Author.Tests.{eqb-true}
 use Rattle.lists.specs.Banks.{isBankList}
 use Rattle.lists.specs.Known.{isKnownList}
 use Rattle.frame.specs.Machine.{State, run}
-use Rattle.rules.specs.Codes.{rules}
-use Rattle.rules.specs.declared.refusal.Refusal.{Refusal}
-use Rattle.rules.specs.declared.refusal.Refusal.the-variants as refusal
+use Rattle.atutal.specs.Codes.{rules}
+use Rattle.findings.specs.declared.refusal.Refusal.{Refusal}
+use Rattle.findings.specs.declared.refusal.Refusal.the-variants as refusal
 use Rattle.judge.specs.declared.Session.{Session}
 use Rattle.judge.specs.declared.Left.{Left}
 use Rattle.judge.specs.declared.Outcome.{Outcome}

@@ -1,9 +1,8 @@
 -- `leaves::fill` is safe: the list keeps its length.
 -- Assumes nothing.
-use mathlib.Core.Path.{_≡_, refl, _∙_}
-use Prim.Native.Nat.{_+_, _-_, _≤_}
-use native.Mathlib.Omega.{arith}
-use lib.ListN.{length, length-set}
+use mathlib.Core.Path.{_≡_}
+use Prim.Native.Nat.{_-_}
+use lib.ListN.{length}
 use borrow.Author.Needs.{needs}
 use Rattle.leaves.proofs.fill.Statement.{statement}
 use Rattle.leaves.proofs.fill.Tie as tie
@@ -32,20 +31,11 @@ mul-at c = search needs
 add-at : tie.Need-add-at Inv-loop μ-loop
 add-at c = search needs
 
-add-small : tie.Need-add-small Inv-loop μ-loop
-add-small c = search needs
+add-field : tie.Need-add-field Inv-loop μ-loop
+add-field c = search needs
 
-sub-small : tie.Need-sub-small Inv-loop μ-loop
-sub-small c = search needs
-
-part-small-start : tie.Need-part-small-start Inv-loop μ-loop
-part-small-start c = search needs
-
-part-small-end : tie.Need-part-small-end Inv-loop μ-loop
-part-small-end c = search needs
-
-small-requires : tie.Need-small-requires Inv-loop μ-loop
-small-requires c κs = search needs
+field-requires : tie.Need-field-requires Inv-loop μ-loop
+field-requires c κs = search needs
 
 mul-list : tie.Need-mul-list Inv-loop μ-loop
 mul-list c = search needs
@@ -80,11 +70,8 @@ fill-spec =
     returns
     mul-at
     add-at
-    add-small
-    sub-small
-    part-small-start
-    part-small-end
-    small-requires
+    add-field
+    field-requires
     mul-list
     slice-write-list
     add-i

@@ -1,7 +1,7 @@
 -- `nshanvekh::nsh_single` meets its contract: the answer's number.
 -- Assumes nothing.
 use mathlib.Core.Path.{ap, _∙_}
-use Rattle.answers.specs.Single.{singleNumber}
+use Rattle.single.specs.Numbers.{singleNumber}
 use borrow.Author.Needs.{needs}
 use Rattle.nshanvekh.proofs.nsh_single.Statement.{statement}
 use Rattle.nshanvekh.proofs.nsh_single.Tie as tie

@@ -9,7 +9,7 @@ use lib.Dec.{leb}
 use lib.ListN.{length, length-replicate}
 use lib.Seq.{length-take-le}
 use borrow.Author.Tests.{leb-true}
-use Rattle.rules.specs.declared.refusal.Refusal.the-variants.{Room, Malformed}
+use Rattle.findings.specs.declared.refusal.Refusal.the-variants.{Room, Malformed}
 use Rattle.judge.specs.declared.Outcome.the-variants.{Done, Refused}
 use Rattle.reading.specs.declared.Read.{Read}
 use Rattle.reading.specs.Reading.{countOf, statusIn, isStatus, refusedAs, readOf, ReadAs}

@@ -9,7 +9,8 @@ use Rattle.frame.specs.Records.{ended}
 use Rattle.digits.specs.Digits.{isDigits}
 use Rattle.base.specs.Bytes.{ascii, field, same}
 use Rattle.reading.specs.Reading.{headRight}
-use Rattle.status.specs.Records.{isDuplicate, isAddress}
+use Rattle.status.specs.Records.{isAddress}
+use Rattle.fields.specs.Fields.{isDuplicate}
 use borrow.Author.Needs.{needs}
 use Rattle.reading.proofs.is_head.Statement.{statement}
 use Rattle.reading.proofs.is_head.Tie as tie

@@ -7,7 +7,7 @@ use Prim.Native.Nat.{ℕ, _<_}
 use native.Mathlib.Omega.{arith}
 use lib.Dec.{eqb}
 use borrow.Author.Tests.{eqb-true}
-use Rattle.rules.proofs.Numbers.{above-zero}
+use Rattle.fields.proofs.Numbers.{above-zero}
 use Rattle.frame.specs.Records.{ended}
 use Rattle.digits.specs.Digits.{isDigits, numberOf}
 use Rattle.base.specs.Bytes.{ascii, field, same}

@@ -8,7 +8,7 @@ use native.Mathlib.Omega.{arith}
 use lib.ListN.{length}
 use lib.Dec.{leb, eqb}
 use borrow.Author.Tests.{le-leb, lt-leb, leb-true, eqb-true, not-true, not-false}
-use Rattle.rules.specs.declared.refusal.Refusal.the-variants.{Room, Malformed}
+use Rattle.findings.specs.declared.refusal.Refusal.the-variants.{Room, Malformed}
 use Rattle.judge.specs.declared.Outcome.the-variants.{Done}
 use Rattle.base.proofs.Every.{both}
 use Rattle.base.specs.Bytes.{over}

@@ -9,7 +9,7 @@ use borrow.Author.Tests.{eq-eqb, not-true, not-false}
 use Rattle.frame.specs.Records.{noId}
 use Rattle.frame.specs.Verdict.{blank}
 use Rattle.frame.specs.Machine.{closing}
-use Rattle.rules.specs.declared.refusal.Refusal.the-variants as refusal
+use Rattle.findings.specs.declared.refusal.Refusal.the-variants as refusal
 use Rattle.judge.specs.declared.Session.{Session}
 use Rattle.judge.specs.declared.Closing.{Closing}
 use Rattle.judge.specs.declared.Outcome.the-variants.{Done, Refused}

@@ -8,7 +8,7 @@ use lib.ListN.{length, replicate}
 use borrow.Author.Tests.{le-leb, lt-leb, not-true, not-false}
 use Rattle.calendar.specs.Calendar.{isDate}
 use Rattle.frame.specs.Machine.{fresh}
-use Rattle.rules.specs.declared.refusal.Refusal.the-variants as refusal
+use Rattle.findings.specs.declared.refusal.Refusal.the-variants as refusal
 use Rattle.judge.specs.declared.Session.{Session}
 use Rattle.judge.specs.declared.Outcome.the-variants.{Done, Refused}
 use Rattle.judge.specs.Session.{tallyOf, closedSession, give, opened}

@@ -7,8 +7,8 @@ use native.Mathlib.Omega.{arith}
 use lib.ListN.{length, length-append}
 use Rattle.base.specs.Bytes.{ascii}
 use Rattle.digits.proofs.Figures.{figures-length}
-use Rattle.rules.specs.Refusals.{refusalNumber}
-use Rattle.rules.specs.declared.refusal.Refusal.{Refusal}
+use Rattle.findings.specs.Refusals.{refusalNumber}
+use Rattle.findings.specs.declared.refusal.Refusal.{Refusal}
 use Rattle.base.specs.Put.{Written, Put}
 use Rattle.lines.specs.Slip.{places, line, refusalLine}
 use Rattle.base.proofs.Put.{written, unwritten}

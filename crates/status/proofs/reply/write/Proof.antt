@@ -12,9 +12,9 @@ use borrow.Author.Tests.{le-leb, lt-leb, not-true, not-false}
 use Rattle.base.specs.Bytes.{field, over}
 use Rattle.frame.specs.Records.{atutal, idOf, itemsOf}
 use Rattle.frame.specs.Verdict.{tableAfter}
-use Rattle.rules.specs.Codes.{rules}
-use Rattle.rules.specs.declared.refusal.Refusal.{Refusal}
-use Rattle.rules.specs.declared.refusal.Refusal.the-variants as refusal
+use Rattle.atutal.specs.Codes.{rules}
+use Rattle.findings.specs.declared.refusal.Refusal.{Refusal}
+use Rattle.findings.specs.declared.refusal.Refusal.the-variants as refusal
 use Rattle.judge.specs.declared.Outcome.{Outcome}
 use Rattle.judge.specs.declared.Outcome.the-variants.{Done, Refused}
 use Rattle.judge.specs.declared.Closing.{Closing}

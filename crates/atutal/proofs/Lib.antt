@@ -1,0 +1,4 @@
+pub mod Tables
+pub mod Bounds
+pub mod Totals
+pub mod Instance

@@ -1,0 +1,88 @@
+-- `checked::bank_found` meets its contract: what satisfies the check digit is digits, and eight digits fit the list's numbers.
+-- Assumes nothing.
+use mathlib.Core.Path.{_≡_, sym, ap, _∙_}
+use mathlib.Core.Bool.{Bool, true, false}
+use mathlib.Core.List.{List}
+use Prim.Native.Nat.{ℕ, _<_}
+use native.Mathlib.Omega.{arith}
+use lib.ListN.{length}
+use borrow.Author.Tests.{not-true, not-false}
+use Rattle.digits.specs.Digits.{isDigits, numberOf}
+use Rattle.cdv.specs.Check.{satisfies}
+use Rattle.digits.proofs.Value.{number-lt}
+use Rattle.cdv.proofs.Weighing.{satisfying-digits}
+use Rattle.lists.specs.Banks.{foundIn}
+use Rattle.findings.specs.Findings.{unless}
+use Rattle.checked.specs.Checked.{bankFound}
+use Rattle.findings.specs.declared.Finding.the-variants.{Right, Fault}
+use Rattle.findings.specs.declared.Kind.the-variants.{NotDigits, CheckDigit, NotListed}
+use Rattle.fields.proofs.Numbers.{another-length, of-digits}
+use borrow.Author.Needs.{needs}
+use Rattle.checked.proofs.bank_found.Statement.{statement}
+use Rattle.checked.proofs.bank_found.Tie as tie
+
+small : (s : List ℕ) → length s ≡ 8 → numberOf s < 100000000
+small s h = rw h at (number-lt s)
+
+module _ (banks s : List ℕ) where
+  other : (length s ≡ 8 → ⊥) → Fault NotDigits ≡ bankFound banks s
+  unfolding bankFound
+  other f = simp (another-length 8 s f)
+
+  module _ (h : length s ≡ 8) where
+    no-digits : isDigits s ≡ false → Fault NotDigits ≡ bankFound banks s
+    unfolding bankFound
+    no-digits e = simp (of-digits 8 s h e)
+
+    wrong : satisfies s ≡ false → isDigits s ≡ true → Fault CheckDigit ≡ bankFound banks s
+    unfolding bankFound
+    wrong e d = simp (of-digits 8 s h d, e)
+
+    right : satisfies s ≡ true → (t : Bool) → foundIn banks (numberOf s) ≡ t → unless t NotListed Right ≡ bankFound banks s
+    unfolding bankFound
+    right e t g = simp (of-digits 8 s h (satisfying-digits s e), e, g)
+
+returns : tie.Need-returns
+returns c = other (c .before .before .before .args .banks .now) (c .before .before .before .args .s .now) (c .if1 .taken)
+
+satisfies-requires : tie.Need-satisfies-requires
+satisfies-requires c κs = search needs
+
+is-digits-requires : tie.Need-is-digits-requires
+is-digits-requires c κs = search needs
+
+returns-2 : tie.Need-returns-2
+returns-2 c = wrong (c .before .before .before .before .before .before .before .args .banks .now) (c .before .before .before .before .before .before .before .args .s .now) (c .before .before .before .before .if1 .left) (sym (c .before .before .before .satisfies .ensures) ∙ not-true _ (c .before .before .if2 .taken)) (sym (c .before .is-digits .ensures) ∙ c .if3 .taken)
+
+returns-3 : tie.Need-returns-3
+returns-3 c = no-digits (c .before .before .before .before .before .before .before .args .banks .now) (c .before .before .before .before .before .before .before .args .s .now) (c .before .before .before .before .if1 .left) (sym (c .before .is-digits .ensures) ∙ c .if3 .left)
+
+number-requires : tie.Need-number-requires
+number-requires c κs = search needs
+
+cast-is-listed : tie.Need-cast-is-listed
+cast-is-listed c = omega (arith, small (c .before .before .before .before .before .before .args .s .now) (c .before .before .before .if1 .left), c .number .ensures)
+
+is-listed-requires : tie.Need-is-listed-requires
+is-listed-requires c κs = search needs
+
+returns-4 : tie.Need-returns-4
+returns-4 c = right (c .before .before .before .before .before .before .before .before .args .banks .now) (c .before .before .before .before .before .before .before .before .args .s .now) (c .before .before .before .before .before .if1 .left) (sym (c .before .before .before .before .satisfies .ensures) ∙ not-false _ (c .before .before .before .if2 .left)) true (sym (ap (foundIn (c .before .before .before .before .before .before .before .before .args .banks .now)) (c .before .before .number .ensures)) ∙ sym (c .before .is-listed .ensures .0) ∙ c .if4 .taken)
+
+returns-5 : tie.Need-returns-5
+returns-5 c = right (c .before .before .before .before .before .before .before .before .args .banks .now) (c .before .before .before .before .before .before .before .before .args .s .now) (c .before .before .before .before .before .if1 .left) (sym (c .before .before .before .before .satisfies .ensures) ∙ not-false _ (c .before .before .before .if2 .left)) false (sym (ap (foundIn (c .before .before .before .before .before .before .before .before .args .banks .now)) (c .before .before .number .ensures)) ∙ sym (c .before .is-listed .ensures .0) ∙ c .if4 .left)
+
+pub bank-found-spec : {M : Type 1} → statement M
+bank-found-spec =
+    tie.close
+    (tie.spec
+    returns
+    satisfies-requires
+    is-digits-requires
+    returns-2
+    returns-3
+    number-requires
+    cast-is-listed
+    is-listed-requires
+    returns-4
+    returns-5)

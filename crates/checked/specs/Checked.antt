@@ -1,0 +1,64 @@
+-- What is found in fields with a check digit, a date or a list: nothing wrong, or the kind of its first fault, in 01's order of kinds
+-- (01, Faults of the whole message; Item rules; Digits and dates; 002 sections 1.1.1 and 1.3.1).
+-- Assumes nothing.
+use Prim.Native.Nat.{ℕ}
+use mathlib.Core.Bool.{Bool, cond, not, _&&_}
+use mathlib.Core.List.{List}
+use lib.ListN.{length}
+use lib.Dec.{eqb}
+use Rattle.base.specs.Bytes.{ascii, field, same}
+use Rattle.digits.specs.Digits.{isDigits, numberOf}
+use Rattle.cdv.specs.Check.{satisfies, isEan13}
+use Rattle.account.specs.declared.Account.{Account}
+use Rattle.account.specs.declared.Account.the-variants as account
+use Rattle.calendar.specs.Calendar.{isWithin, isBefore}
+use Rattle.calendar.specs.Reading.{readingOf}
+use Rattle.calendar.specs.declared.Reading.{Reading}
+use Rattle.calendar.specs.declared.Reading.the-variants as reading
+use Rattle.lists.specs.Banks.{foundIn}
+use Rattle.findings.specs.declared.Finding.{Finding}
+use Rattle.findings.specs.declared.Finding.the-variants.{Right, Fault}
+use Rattle.findings.specs.declared.Kind.the-variants.{Form, NotDigits, CheckDigit, NoDate, OutsideDays, NotListed, Other}
+use Rattle.findings.specs.Findings.{unless}
+use Rattle.fields.specs.Fields.{digitsOf}
+
+-- a tax number: A, eight digits, T, three digits
+unfoldable pub isTaxForm : List ℕ → Bool
+isTaxForm s =
+    eqb (length s) 13
+    && (same (field 1 1 s) (ascii "A") && (isDigits (field 2 9 s) && (same (field 10 10 s) (ascii "T") && isDigits (field 11 13 s))))
+
+-- initiator: a tax number that satisfies the check digit, or an EAN-13
+unfoldable pub initiatorFound : List ℕ → Finding
+initiatorFound s =
+    cond (isTaxForm s)
+    (unless (satisfies (field 2 9 s)) CheckDigit Right)
+    (unless (digitsOf 13 s) Form (unless (isEan13 s) CheckDigit Right))
+
+-- what is found in a date field, and what is asked of a date
+abbrev pub dateFound : (ℕ → Finding) → Reading → Finding
+dateFound asks (reading.Date d) = asks d
+dateFound asks reading.NotDigits = Fault NotDigits
+dateFound asks reading.NoDate = Fault NoDate
+
+-- date: from E-15 to E
+unfoldable pub compiledFound : ℕ → List ℕ → Finding
+compiledFound e s = dateFound (λ d. unless (isWithin d e 15) OutsideDays Right) (readingOf s)
+
+-- debit date: not before E; by note 4 of 1.1.1 from the date c to ten days after it
+abbrev pub debitDay : ℕ → ℕ → ℕ → Finding
+debitDay e c d = unless (not (isBefore d e)) OutsideDays (unless (isWithin c d 10) Other Right)
+
+unfoldable pub debitFound : ℕ → ℕ → List ℕ → Finding
+debitFound e c s = dateFound (debitDay e c) (readingOf s)
+
+-- bank: eight digits that satisfy the check digit, listed
+unfoldable pub bankFound : List ℕ → List ℕ → Finding
+bankFound banks s =
+    unless (digitsOf 8 s) NotDigits (unless (satisfies s) CheckDigit (unless (foundIn banks (numberOf s)) NotListed Right))
+
+-- account: its form, then its check digit
+abbrev pub accountFound : Account → Finding
+accountFound account.Good = Right
+accountFound account.Form = Fault Form
+accountFound account.CheckDigit = Fault CheckDigit

@@ -1,0 +1,4 @@
+pub mod Row
+pub mod ByKind
+pub mod Naming
+pub mod Small

@@ -1,0 +1,79 @@
+-- `findings::ranked_else` meets its contract: the last arm has every kind but one.
+-- Assumes nothing.
+use mathlib.Core.Path.{_≡_, refl, sym, ap, _∙_}
+use mathlib.Core.List.{List, [], _∷_}
+use Prim.Native.Nat.{ℕ}
+use types.Run.{OneOf, miss}
+use denote.Enum.Declared.{tagOf}
+use Rattle.frame.specs.Machine.{earlier}
+use Rattle.findings.specs.declared.Kind.{Kind}
+use Rattle.findings.specs.declared.Kind.the-variants.{Letter, Mark, Form, NotDigits, CheckDigit, NoDate, OutsideDays, NotListed, Known, BlankOrZero, OutOfOrder, Other}
+use Rattle.findings.specs.declared.Finding.{Finding}
+use Rattle.findings.specs.declared.Finding.the-variants.{Right, Fault}
+use Rattle.findings.proofs.Kind.{the-type}
+use Rattle.findings.specs.Codes.{digitsElse, eitherCode}
+use borrow.Author.Needs.{needs}
+use Rattle.findings.proofs.ranked_else.Statement.{statement}
+use Rattle.findings.proofs.ranked_else.Tie as tie
+
+-- the other kinds, by their numbers
+abbrev others : List ℕ
+others = 0 ∷ 1 ∷ 2 ∷ 4 ∷ 5 ∷ 6 ∷ 7 ∷ 8 ∷ 9 ∷ 10 ∷ 11 ∷ []
+
+other : (c d : ℕ) (k : Kind) → OneOf others (tagOf the-type k) → d ≡ digitsElse c d k
+other c d Letter h = refl
+other c d Mark h = refl
+other c d Form h = refl
+other c d NotDigits h = absurd (miss others 3 tt h)
+other c d CheckDigit h = refl
+other c d NoDate h = refl
+other c d OutsideDays h = refl
+other c d NotListed h = refl
+other c d Known h = refl
+other c d BlankOrZero h = refl
+other c d OutOfOrder h = refl
+other c d Other h = refl
+
+module _ (f : Finding) (c d later : ℕ) where
+  right : f ≡ Right → later ≡ earlier (eitherCode c d f) later
+  right e = rw e
+
+  fault : {k : Kind} → f ≡ Fault k → {n : ℕ} → n ≡ digitsElse c d k → (r : ℕ) → r ≡ earlier n later → r ≡ earlier (eitherCode c d f) later
+  fault e q r h = rw e (h ∙ ap (λ (m : ℕ). earlier m later) q)
+
+enum-told : tie.Need-enum-told
+enum-told c = search needs
+
+enum-known-f : tie.Need-enum-known-f
+enum-known-f c = search needs
+
+enum-told-2 : tie.Need-enum-told-2
+enum-told-2 c = search needs
+
+earlier-requires : tie.Need-earlier-requires
+earlier-requires c κs = search needs
+
+earlier-requires-2 : tie.Need-earlier-requires-2
+earlier-requires-2 c κs = search needs
+
+returns : tie.Need-returns
+returns c = right (c .before .before .args .f) (c .before .before .args .digits) (c .before .before .args .other) (c .before .before .args .later) (c .enum-told .given .1)
+
+returns-2 : tie.Need-returns-2
+returns-2 c = fault (c .before .before .before .before .before .before .args .f) (c .before .before .before .before .before .before .args .digits) (c .before .before .before .before .before .before .args .other) (c .before .before .before .before .before .before .args .later) (c .before .before .before .before .f .given .1) (sym (ap (digitsElse (c .before .before .before .before .before .before .args .digits) (c .before .before .before .before .before .before .args .other)) (c .before .enum-told2 .given .1))) (c .earlier .result) (c .earlier .ensures)
+
+returns-3 : tie.Need-returns-3
+returns-3 c = fault (c .before .before .before .before .before .args .f) (c .before .before .before .before .before .args .digits) (c .before .before .before .before .before .args .other) (c .before .before .before .before .before .args .later) (c .before .before .before .f .given .1) (other (c .before .before .before .before .before .args .digits) (c .before .before .before .before .before .args .other) (c .before .before .before .f .given .0 .0) (c .before .match2 .keys2)) (c .earlier2 .result) (c .earlier2 .ensures)
+
+pub ranked-else-spec : {M : Type 1} → statement M
+ranked-else-spec =
+    tie.close
+    (tie.spec
+    enum-told
+    enum-known-f
+    enum-told-2
+    earlier-requires
+    earlier-requires-2
+    returns
+    returns-2
+    returns-3)

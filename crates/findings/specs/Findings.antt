@@ -1,0 +1,28 @@
+-- What a test of a field finds, and the number of each kind of fault in 01's order (01, Calls and their answers).
+-- Assumes nothing.
+use Prim.Native.Nat.{ℕ}
+use mathlib.Core.Bool.{Bool, true, false}
+use Rattle.findings.specs.declared.Kind.{Kind}
+use Rattle.findings.specs.declared.Kind.the-variants.{Letter, Mark, Form, NotDigits, CheckDigit, NoDate, OutsideDays, NotListed, Known, BlankOrZero, OutOfOrder, Other}
+use Rattle.findings.specs.declared.Finding.{Finding}
+use Rattle.findings.specs.declared.Finding.the-variants.{Right, Fault}
+
+-- what one test finds, and then what is found further on
+abbrev pub unless : Bool → Kind → Finding → Finding
+unless true k f = f
+unless false k f = Fault k
+
+-- the kinds of fault, in the order of 01's list
+abbrev pub kindNumber : Kind → ℕ
+kindNumber Letter = 1
+kindNumber Mark = 2
+kindNumber Form = 3
+kindNumber NotDigits = 4
+kindNumber CheckDigit = 5
+kindNumber NoDate = 6
+kindNumber OutsideDays = 7
+kindNumber NotListed = 8
+kindNumber Known = 9
+kindNumber BlankOrZero = 10
+kindNumber OutOfOrder = 11
+kindNumber Other = 12

@@ -1,0 +1,57 @@
+-- The answer on a single head or item (01, Calls and their answers).
+-- Assumes nothing.
+use Prim.Native.Nat.{ℕ}
+use mathlib.Core.Bool.{Bool, cond}
+use mathlib.Core.List.{List, [], _∷_, _++_}
+use lib.ListN.{length}
+use lib.Dec.{eqb}
+use Rattle.base.specs.Bytes.{field}
+use Rattle.calendar.specs.Calendar.{isDate}
+use Rattle.lists.specs.Banks.{isBankList}
+use Rattle.lists.specs.Known.{isKnownList}
+use Rattle.findings.specs.declared.Kind.{Kind}
+use Rattle.findings.specs.declared.refusal.Refusal.the-variants.{NotADay, BankList, KnownList, Malformed}
+use Rattle.findings.specs.declared.Answer.{Answer}
+use Rattle.findings.specs.declared.Answer.the-variants as named
+use Rattle.fields.specs.Fields.{letterFound}
+use Rattle.findings.specs.Codes.{Ü, Rule, rule, always}
+use Rattle.findings.specs.Naming.{firstNamed}
+use Rattle.atutal.specs.Codes.{itemRules}
+use Rattle.heads.specs.Heads.{headRules}
+
+-- the letters of a text field; the code of a bad one is 36 wherever it stands
+abbrev pub letters : (Kind → Answer) → List ℕ → Rule
+letters n s = rule n (always (Ü 36)) (letterFound s)
+
+-- the text fields of a head, and of an item
+unfoldable pub headTexts : List ℕ → List Rule
+headTexts r = letters named.Name (field 70 104 r) ∷ letters named.Remark (field 105 174 r) ∷ []
+
+unfoldable pub itemTexts : List ℕ → List Rule
+itemTexts r =
+    letters named.CustomerId (field 51 74 r)
+    ∷ letters named.Name (field 75 109 r)
+    ∷ letters named.Address (field 110 144 r)
+    ∷ letters named.Owner (field 145 179 r)
+    ∷ letters named.Remark (field 180 249 r)
+    ∷ []
+
+-- a bad letter comes first, then the fields in order
+unfoldable pub headAnswer : ℕ → List ℕ → List ℕ → List ℕ → Answer
+headAnswer e banks known r = firstNamed (headTexts r ++ headRules e banks known r)
+
+unfoldable pub itemAnswer : List ℕ → ℕ → List ℕ → Answer
+itemAnswer banks k r = firstNamed (itemTexts r ++ itemRules banks k r)
+
+-- the answer: refusals 1, 2, 3 and 10 in this order; its length tells a head from an item
+unfoldable pub singleAnswer : ℕ → List ℕ → List ℕ → ℕ → List ℕ → Answer
+singleAnswer e banks known k r =
+    cond (isDate e)
+    (cond (isBankList banks)
+    (cond (isKnownList known)
+    (cond (eqb (length r) 174)
+    (headAnswer e banks known r)
+    (cond (eqb (length r) 249) (itemAnswer banks k r) (named.Refused Malformed)))
+    (named.Refused KnownList))
+    (named.Refused BankList))
+    (named.Refused NotADay)

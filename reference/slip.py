@@ -1,0 +1,59 @@
+"""What the slip program prints, by definition.
+
+Written from document 01 alone, not from the code that is held to it. The three
+files and the message are bytes; a missing file is an empty one (01 "Examples").
+"""
+
+import leaves
+import message
+
+# 01 "Examples": a file over 25,000 bytes is refused.
+LONGEST_FILE = 25000
+
+
+# The files
+
+
+def day_in(file):
+    """01 "Examples": eight digits, and "refusals" 1: a date. None where it isn't."""
+    return None if leaves.date(file) is None else int(file)
+
+
+def banks_in(file):
+    """01 "Examples": eight digits and 0Ah each; "The job": strictly ascending. None where they aren't."""
+    *lines, rest = file.split(b"\n")
+    if len(file) > LONGEST_FILE or rest != b"":
+        return None
+    if not all(len(line) == 8 and line.isdigit() for line in lines):
+        return None
+    banks = tuple(map(int, lines))
+    return banks if leaves.bank_list(0, banks)[0] else None
+
+
+def is_known(file):
+    """01 "The job": identifiers of 25 bytes, end to end."""
+    return len(file) <= LONGEST_FILE and leaves.known_list(b"", file)[0]
+
+
+# The slip
+
+
+def refused(number):
+    """01 "Examples": REFUSAL and its number alone."""
+    return b"REFUSAL %d\n" % number
+
+
+def slip(day_file, banks_file, known, text):
+    """01 "Examples": what the program prints. The files are judged in their order, before the message."""
+    day, banks = day_in(day_file), banks_in(banks_file)
+    if day is None:
+        return refused(1)
+    if banks is None:
+        return refused(2)
+    if not is_known(known):
+        return refused(3)
+    table = bytes(message.LONGEST_TABLE)
+    refusal, code, numbers, _, _ = message.judge(text, day, banks, known, table)
+    if refusal:
+        return refused(refusal)
+    return b"MESSAGE %02d\nACCEPTED %d %d\nREFUSED %d %d\nZERO %d\n" % (code, *numbers)
