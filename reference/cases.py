@@ -650,15 +650,16 @@ def calls_without_session():
 
 def numbers_out_of_range(real):
     """docs/SESSION.md: place, width and value of each number one beyond its range, or so large that a sum with it wraps."""
-    numbers = [int.from_bytes(real[place : place + 8], "little") for place in range(4, 68, 8)]
-    _, room, accepted, _, refused, _, _, fill = numbers
+    numbers = [int.from_bytes(real[place : place + 8], "little") for place in range(12, 68, 8)]
+    room, accepted, _, refused, _, _, fill = numbers
     record = session.record_size(real[1], real[93 : 93 + fill]) if real[1] < 2 else 1
     return [
         *((0, 1, mark) for mark in (0, 2, 255)),
         *((1, 1, phase) for phase in (5, 6, 255)),
         *((2, 1, letter) for letter in (2, 255)),
         *((3, 1, code) for code in (100, 255)),
-        *((4, 8, day) for day in (0, 20200230, E + 2**32, E + 2**63)),
+        *((4, 4, day) for day in (0, 20200230)),
+        *((8, 4, told) for told in (1, 2**31)),
         *((12, 8, length) for length in (10001, 2**64 - 1)),
         *((20, 8, count) for count in (room - refused + 1, 2**64 - refused)),
         *((28, 8, total) for total in (9999999999 * accepted + 1, 2**64 - 1)),

@@ -12,6 +12,7 @@ from message import LONGEST_TABLE
 
 SIZE = 344
 MOST_AMOUNT = 9999999999  # 01 "Records": ten digits
+MOST_TOLD = 0  # ATUTAL's head tells its items nothing
 CLOSED = bytes([1, 5]).ljust(SIZE, b"\0")  # phase 5; only that it is refused counts here
 
 
@@ -46,23 +47,27 @@ def of(read, room, day, banks, known):
     if phase == 2:
         codes.append(rules.judge_foot(foot, len(items), accepted_sum + refused_sum))
     held = begun if phase < 2 else b""
-    numbers = (day, room, accepted, accepted_sum, refused, refused_sum, zeros, len(held))
+    numbers = (room, accepted, accepted_sum, refused, refused_sum, zeros, len(held))
     marks = bytes([1, phase, letter, next((code for code in codes if code), 0)])
+    told = 0
+    short = day.to_bytes(4, "little") + told.to_bytes(4, "little")
     fields = b"".join(number.to_bytes(8, "little") for number in numbers)
-    return marks + fields + message.identifier(head) + held.ljust(251, b"\0")
+    return marks + short + fields + message.identifier(head) + held.ljust(251, b"\0")
 
 
 def is_open(session):
     """The bytes are those of a session, open, with each number in its range."""
     mark, phase, letter, code = session[:4]
-    numbers = [int.from_bytes(session[place : place + 8], "little") for place in range(4, 68, 8)]
-    day, room, accepted, accepted_sum, refused, refused_sum, zeros, fill = numbers
+    day, told = int.from_bytes(session[4:8], "little"), int.from_bytes(session[8:12], "little")
+    numbers = [int.from_bytes(session[place : place + 8], "little") for place in range(12, 68, 8)]
+    room, accepted, accepted_sum, refused, refused_sum, zeros, fill = numbers
     begun = session[93 : 93 + fill]
     return (
         mark == 1
         and phase <= 4
         and letter <= 1
         and code <= 99
+        and told <= MOST_TOLD
         and rules.clearing_day(day) is not None
         and room <= LONGEST_TABLE
         and accepted + refused <= room

@@ -17,12 +17,12 @@ abbrev pub own : List ℕ → List ℕ
 own s = cond (isBlank (drop 8 s)) (take 8 s) s
 
 -- what those digits are found to be
-abbrev pub judged : List ℕ → Account
-judged s = cond (isDigits s) (cond (satisfies s) Good CheckDigit) Form
+abbrev pub digitsFound : List ℕ → Account
+digitsFound s = cond (isDigits s) (cond (satisfies s) Good CheckDigit) Form
 
 -- what a field is found to be; only one of sixteen bytes is an account
 unfoldable pub accountOf : List ℕ → Account
-accountOf s = cond (eqb (length s) 16) (judged (own s)) Form
+accountOf s = cond (eqb (length s) 16) (digitsFound (own s)) Form
 
 -- '0'
 abbrev pub zero : ℕ → Bool

@@ -1,7 +1,7 @@
 // Account fields: sixteen digits, or eight digits and eight spaces, with a check digit over the digits.
 ghost use mathlib.Core.Path.{_≡_};
 ghost use Rattle.base.specs.Bytes.{every};
-ghost use Rattle.account.specs.Account.{zero, judged, accountOf, isZeroAccount};
+ghost use Rattle.account.specs.Account.{zero, digitsFound, accountOf, isZeroAccount};
 
 // What an account field is found to be.
 pub enum Account {
@@ -11,8 +11,8 @@ pub enum Account {
 }
 
 // The digits of an account field: good, or what is wrong with them.
-fn judge(s: &[u8]) -> Account
-    ensures { λ r. ⌜ r ≡ judged (now (s .entry)) ⌝ }
+fn digits_found(s: &[u8]) -> Account
+    ensures { λ r. ⌜ r ≡ digitsFound (now (s .entry)) ⌝ }
 {
     if cdv::satisfies(s) {
         return Account::Good;
@@ -35,9 +35,9 @@ pub fn read(s: &[u8]) -> Account
         if !text::is_blank(&s[8..16]) {
             return Account::Form;
         }
-        return judge(&s[0..8]);
+        return digits_found(&s[0..8]);
     }
-    judge(s)
+    digits_found(s)
 }
 
 // Each byte is '0'. A byte that isn't is most often the first.

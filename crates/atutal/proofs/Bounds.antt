@@ -24,7 +24,9 @@ use Rattle.atutal.proofs.Tables.{whole-row, alone-row, same-rules}
 
 module _ (x : ItemFindings) where
   whole-lt : firstWhole (rulesOf x) < 100
-  whole-lt = rw whole-row (earlier-lt (wholeCode (always (Ü 46)) (x .mark)) (eitherCode 34 0 (x .amount .found)) (always-lt 46 (lit< tt) (x .mark)) (either-lt 34 0 (lit< tt) (lit< tt) (x .amount .found)))
+  whole-lt =
+      rw whole-row (earlier-lt (wholeCode (always (Ü 46)) (x .mark)) (eitherCode 34 0 (x .amount .found)) (always-lt 46 (lit< tt) (x .mark))
+      (either-lt 34 0 (lit< tt) (lit< tt) (x .amount .found)))
 
   alone-lt : firstAlone (rulesOf x) < 100
   alone-lt =

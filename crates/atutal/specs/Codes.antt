@@ -11,13 +11,14 @@ use Rattle.text.specs.Text.{isText}
 use Rattle.digits.specs.Digits.{numberOf}
 use Rattle.account.specs.Account.{accountOf, isZeroAccount}
 use Rattle.frame.specs.declared.Found.{Found}
-use Rattle.frame.specs.Records.{atutal}
+use Rattle.frame.specs.Records.{lengths}
 use Rattle.frame.specs.Verdict.{Rules, first}
 use Rattle.findings.specs.declared.Finding.the-variants.{Right}
 use Rattle.findings.specs.declared.Answer.the-variants as named
 use Rattle.findings.specs.Codes.{Ü, T, Rule, rule, always, digitsElse, firstWhole, firstAlone}
 use Rattle.fields.specs.Fields.{markFound, placeFound, amountOf, filledFound, totalCode}
 use Rattle.checked.specs.Checked.{bankFound, accountFound}
+use Rattle.lent.specs.Lent.{Lent}
 use Rattle.heads.specs.Heads.{headFound}
 use Rattle.atutal.specs.declared.item.ItemFindings.{ItemFindings}
 
@@ -52,7 +53,7 @@ itemRules banks k r = rulesOf (itemFields banks k r)
 -- what is found in the fields of bytes of any length: nothing where that isn't an item's
 unfoldable pub itemFindings : List ℕ → ℕ → List ℕ → ItemFindings
 itemFindings banks k r =
-    cond (eqb (length r) 249)
+    cond (eqb (length r) (lengths .item))
     (itemFields banks k r)
     (record {
       mark = Right;
@@ -71,7 +72,7 @@ itemLetter r = not (isText (field 51 249 r))
 -- what is found in an item; an amount that isn't ten digits counts as 0; bytes of another length are a break
 unfoldable pub itemFound : List ℕ → ℕ → List ℕ → Found
 itemFound banks k r =
-    cond (eqb (length r) 249)
+    cond (eqb (length r) (lengths .item))
     (record {
       letter = itemLetter r;
       fault = firstWhole (itemRules banks k r);
@@ -84,19 +85,18 @@ itemFound banks k r =
 -- 1.2.1: the count is six digits and the items' number, the sum sixteen digits and theirs; bytes of another length are a break
 unfoldable pub footCode : ℕ → ℕ → List ℕ → ℕ
 footCode count sum r =
-    cond (eqb (length r) 24)
+    cond (eqb (length r) (lengths .foot))
     (first (totalCode 6 count 18 (field 3 8 r) ∷ totalCode 16 sum 19 (field 9 24 r) ∷ []))
     26
 
--- the rules of ATUTAL, for the clearing day and the lists of a session
-abbrev pub rules : ℕ → List ℕ → List ℕ → Rules
-rules e banks known =
+-- the rules of ATUTAL, for what is lent; its head tells the items nothing
+abbrev pub rules : Lent → Rules
+rules l =
     record {
-      sizes = atutal;
       tells = λ r. 0;
-      headLetter = λ r. headFound e banks known r .letter;
-      headCode = λ r. headFound e banks known r .code;
-      item = λ told k r. itemFound banks k r;
+      headLetter = λ r. headFound (l .day) (l .lists .banks) (l .lists .known) r .letter;
+      headCode = λ r. headFound (l .day) (l .lists .banks) (l .lists .known) r .code;
+      item = λ told k r. itemFound (l .lists .banks) k r;
       footCode = footCode;
       footCount = λ r. numberOf (field 3 8 r);
       footSum = λ r. numberOf (field 9 24 r);

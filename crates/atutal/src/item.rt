@@ -1,6 +1,7 @@
 // An item of an ATUTAL message (002 section 1.3.1).
 ghost use mathlib.Core.Path.{_≡_};
 ghost use lib.ListN.{length};
+ghost use Rattle.frame.specs.Records.{lengths};
 ghost use Rattle.findings.specs.Codes.{firstWhole, firstAlone};
 ghost use Rattle.atutal.specs.Codes.{itemFields, itemFindings, rulesOf, itemFound};
 use fields::Amount;
@@ -23,7 +24,7 @@ pub struct ItemFindings {
 
 // What is found in the fields of a whole item, by its place and the bank list.
 fn fields_in(r: &[u8], k: u64, banks: &[u32]) -> ItemFindings
-    requires { ⌜ length (now r) ≡ 249 ⌝ }
+    requires { ⌜ length (now r) ≡ lengths .item ⌝ }
     ensures { λ f. ⌜ f ≡ itemFields (now (banks .entry)) k (now (r .entry)) ⌝ }
 {
     ItemFindings {
@@ -41,7 +42,7 @@ fn fields_in(r: &[u8], k: u64, banks: &[u32]) -> ItemFindings
 pub fn all_findings(r: &[u8], k: u64, banks: &[u32]) -> ItemFindings
     ensures { λ f. ⌜ f ≡ itemFindings (now (banks .entry)) k (now (r .entry)) ⌝ }
 {
-    if r.len() == 249 {
+    if r.len() == frame::ITEM {
         return fields_in(r, k, banks);
     }
     ItemFindings {
@@ -89,10 +90,10 @@ fn alone_of(f: ItemFindings) -> u8
 
 // What is found in an item at place k: a bad letter, its codes, its amount, and whether its account is one of zeros.
 // The fields are judged straight on: most items have no fault. Bytes of another length are a break.
-pub fn judge(r: &[u8], k: u64, banks: &[u32]) -> frame::Found
+pub fn found_in(r: &[u8], k: u64, banks: &[u32]) -> frame::Found
     ensures { λ x. ⌜ x ≡ itemFound (now (banks .entry)) k (now (r .entry)) ⌝ }
 {
-    if r.len() != 249 {
+    if r.len() != frame::ITEM {
         return frame::Found {
             letter: false,
             fault: 26,
@@ -104,7 +105,7 @@ pub fn judge(r: &[u8], k: u64, banks: &[u32]) -> frame::Found
     let f = fields_in(r, k, banks);
     let a = f.amount;
     frame::Found {
-        letter: !text::is_text(&r[50..249]),
+        letter: !text::is_text(&r[50..frame::ITEM]),
         fault: whole_of(f),
         code: alone_of(f),
         amount: a.value,

@@ -9,7 +9,8 @@ use lib.Dec.{lit<, lit≤}
 use borrow.Author.Tests.{lt-ltb, le-ltb}
 use Rattle.calendar.specs.Calendar.{yearOf, monthOf, dayOf, written, leap, monthLength, yearLength, isDate, daysOfMonths, daysTo, dayNumber, dayAfter}
 use Rattle.calendar.proofs.Numbers.{lt-or-le}
-use Rattle.calendar.proofs.Dates.{Day, parts, date, fair-month, count, year-written, month-written, day-written, rewritten, month-step, year-step, no-month, whole-year, is-number}
+use Rattle.calendar.proofs.Dates.{Day, parts, date, fair-month, no-month, count, month-step, year-step, whole-year, is-number}
+use Rattle.calendar.proofs.Dates.{year-written, month-written, day-written, rewritten}
 
 -- from a date to the next, by their parts
 record Step (y m d y′ m′ d′ : ℕ) : Type 0 where

@@ -4,7 +4,8 @@ use mathlib.Core.Path.{_≡_, refl, sym, ap, _∙_}
 use mathlib.Core.Bool.{Bool, true, false, cond, not, _&&_, _||_, false≢true}
 use mathlib.Core.Logic.{⊎-elim}
 use Prim.Native.Nat.{ℕ, zero, suc, _+_, _-_, _*_, _/_, _%_, _<_, _≤_}
-use native.Mathlib.Nat.{div-add-mod', mod-lt, mul-add-mod-self-right, mul-add-div-right, mod-self, div-self, mod-eq-of-lt, div-eq-of-lt, eq-or-lt-of-le, mod-mod-of-dvd, zero-mod, dvd-of-mod-eq-zero}
+use native.Mathlib.Nat.{div-add-mod', div-eq-of-lt, div-self, dvd-of-mod-eq-zero, eq-or-lt-of-le, mul-add-div-right, mul-add-mod-self-right}
+use native.Mathlib.Nat.{mod-eq-of-lt, mod-lt, mod-mod-of-dvd, mod-self, zero-mod}
 use native.Mathlib.Omega.{arith}
 use lib.Dec.{eqb, lit<}
 use borrow.Author.Tests.{eqb-true, eq-eqb, ne-eqb}

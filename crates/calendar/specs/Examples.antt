@@ -6,8 +6,8 @@ use mathlib.Core.List.{[], _∷_, map}
 use Rattle.base.specs.Bytes.{ascii}
 use Rattle.digits.specs.Digits.{numberOf}
 use Rattle.calendar.specs.Calendar.{leap, isDate, daysOfYears, daysOfMonths, daysTo, dayNumber, isWithin}
-use Rattle.calendar.specs.Reading.{readingOf}
-use Rattle.calendar.specs.declared.Reading.the-variants.{Date, NotDigits, NoDate}
+use Rattle.calendar.specs.DateField.{dateField}
+use Rattle.calendar.specs.declared.DateField.the-variants.{Date, NotDigits, NoDate}
 
 -- 29 February of a leap year, of another year, and of a hundred that is none
 pub dates : map isDate (20200229 ∷ 20190229 ∷ 21000229 ∷ []) ≡ true ∷ false ∷ false ∷ []
@@ -25,6 +25,7 @@ unfolding leap isDate daysOfYears daysOfMonths daysTo dayNumber isWithin
 days = refl
 
 -- a date, no date, a byte that is no digit, and seven digits
-pub readings : map readingOf (ascii "20200229" ∷ ascii "20190229" ∷ ascii "2020 229" ∷ ascii "2020229" ∷ []) ≡ Date 20200229 ∷ NoDate ∷ NotDigits ∷ NotDigits ∷ []
-unfolding leap isDate numberOf readingOf
-readings = refl
+pub date-fields : map dateField (ascii "20200229" ∷ ascii "20190229" ∷ ascii "2020 229" ∷ ascii "2020229" ∷ [])
+    ≡ Date 20200229 ∷ NoDate ∷ NotDigits ∷ NotDigits ∷ []
+unfolding leap isDate numberOf dateField
+date-fields = refl

@@ -1,3 +1,3 @@
 pub mod Calendar
-pub mod Reading
+pub mod DateField
 pub mod Examples

@@ -2,7 +2,7 @@
 ghost use mathlib.Core.Path.{_≡_};
 ghost use mathlib.Core.Bool.{true};
 ghost use Prim.Native.Nat.{_≤_};
-ghost use Rattle.calendar.specs.Reading.{readingOf};
+ghost use Rattle.calendar.specs.DateField.{dateField};
 ghost use Rattle.calendar.specs.Calendar.{
   leap,
   monthLength,
@@ -126,7 +126,7 @@ pub fn is_before(a: u32, b: u32) -> bool
 }
 
 // What a field that should hold a date holds (01, Digits and dates).
-pub enum Reading {
+pub enum DateField {
     // A date, as a number yyyymmdd.
     Date(u32),
     // Not eight digits.
@@ -136,18 +136,18 @@ pub enum Reading {
 }
 
 // The date that the eight digits of a field say.
-pub fn read_date(s: &[u8]) -> Reading
-    ensures { λ r. ⌜ r ≡ readingOf (now (s .entry)) ⌝ }
+pub fn read_date(s: &[u8]) -> DateField
+    ensures { λ r. ⌜ r ≡ dateField (now (s .entry)) ⌝ }
 {
     if s.len() != 8 {
-        return Reading::NotDigits;
+        return DateField::NotDigits;
     }
     if !digits::is_digits(s) {
-        return Reading::NotDigits;
+        return DateField::NotDigits;
     }
     let n = digits::number(s) as u32;
     if is_date(n) {
-        return Reading::Date(n);
+        return DateField::Date(n);
     }
-    Reading::NoDate
+    DateField::NoDate
 }

@@ -1,9 +1,8 @@
 -- The examples of 01 on check digits, each group computed at once.
 -- Assumes nothing.
-use Prim.Native.Nat.{ℕ}
 use mathlib.Core.Path.{_≡_, refl}
-use mathlib.Core.Bool.{Bool, true, false}
-use mathlib.Core.List.{List, [], _∷_, map}
+use mathlib.Core.Bool.{true, false}
+use mathlib.Core.List.{[], _∷_, map}
 use Rattle.base.specs.Bytes.{ascii}
 use Rattle.cdv.specs.Check.{satisfies, isEan13}
 

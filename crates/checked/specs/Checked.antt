@@ -12,9 +12,9 @@ use Rattle.cdv.specs.Check.{satisfies, isEan13}
 use Rattle.account.specs.declared.Account.{Account}
 use Rattle.account.specs.declared.Account.the-variants as account
 use Rattle.calendar.specs.Calendar.{isWithin, isBefore}
-use Rattle.calendar.specs.Reading.{readingOf}
-use Rattle.calendar.specs.declared.Reading.{Reading}
-use Rattle.calendar.specs.declared.Reading.the-variants as reading
+use Rattle.calendar.specs.DateField.{dateField}
+use Rattle.calendar.specs.declared.DateField.{DateField}
+use Rattle.calendar.specs.declared.DateField.the-variants as inField
 use Rattle.lists.specs.Banks.{foundIn}
 use Rattle.findings.specs.declared.Finding.{Finding}
 use Rattle.findings.specs.declared.Finding.the-variants.{Right, Fault}
@@ -36,21 +36,21 @@ initiatorFound s =
     (unless (digitsOf 13 s) Form (unless (isEan13 s) CheckDigit Right))
 
 -- what is found in a date field, and what is asked of a date
-abbrev pub dateFound : (ℕ → Finding) → Reading → Finding
-dateFound asks (reading.Date d) = asks d
-dateFound asks reading.NotDigits = Fault NotDigits
-dateFound asks reading.NoDate = Fault NoDate
+abbrev pub dateFound : (ℕ → Finding) → DateField → Finding
+dateFound asks (inField.Date d) = asks d
+dateFound asks inField.NotDigits = Fault NotDigits
+dateFound asks inField.NoDate = Fault NoDate
 
 -- date: from E-15 to E
 unfoldable pub compiledFound : ℕ → List ℕ → Finding
-compiledFound e s = dateFound (λ d. unless (isWithin d e 15) OutsideDays Right) (readingOf s)
+compiledFound e s = dateFound (λ d. unless (isWithin d e 15) OutsideDays Right) (dateField s)
 
 -- debit date: not before E; by note 4 of 1.1.1 from the date c to ten days after it
 abbrev pub debitDay : ℕ → ℕ → ℕ → Finding
 debitDay e c d = unless (not (isBefore d e)) OutsideDays (unless (isWithin c d 10) Other Right)
 
 unfoldable pub debitFound : ℕ → ℕ → List ℕ → Finding
-debitFound e c s = dateFound (debitDay e c) (readingOf s)
+debitFound e c s = dateFound (debitDay e c) (dateField s)
 
 -- bank: eight digits that satisfy the check digit, listed
 unfoldable pub bankFound : List ℕ → List ℕ → Finding

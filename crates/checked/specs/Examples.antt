@@ -6,7 +6,7 @@ use Rattle.base.specs.Bytes.{ascii}
 use Rattle.digits.specs.Digits.{numberOf}
 use Rattle.cdv.specs.Check.{satisfies, isEan13}
 use Rattle.calendar.specs.Calendar.{leap, isDate, daysOfYears, daysOfMonths, daysTo, dayNumber, isWithin}
-use Rattle.calendar.specs.Reading.{readingOf}
+use Rattle.calendar.specs.DateField.{dateField}
 use Rattle.findings.specs.declared.Kind.the-variants.{CheckDigit, OutsideDays}
 use Rattle.findings.specs.declared.Finding.the-variants.{Right, Fault}
 use Rattle.checked.specs.Checked.{isTaxForm, initiatorFound, compiledFound}
@@ -18,5 +18,5 @@ initiators = refl
 
 -- with E 20200310, from 15 days before it to E
 pub days : map (compiledFound 20200310) (ascii "20200224" ∷ ascii "20200223" ∷ ascii "20200311" ∷ []) ≡ Right ∷ Fault OutsideDays ∷ Fault OutsideDays ∷ []
-unfolding leap isDate daysOfYears daysOfMonths daysTo dayNumber isWithin numberOf readingOf compiledFound
+unfolding leap isDate daysOfYears daysOfMonths daysTo dayNumber isWithin numberOf dateField compiledFound
 days = refl

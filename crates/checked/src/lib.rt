@@ -53,9 +53,9 @@ pub fn compiled_found(s: &[u8], e: u32) -> Finding
 {
     let d = calendar::read_date(s);
     match d {
-        calendar::Reading::Date(n) => found(calendar::is_within(n, e, 15), Kind::OutsideDays),
-        calendar::Reading::NotDigits => Finding::Fault(Kind::NotDigits),
-        calendar::Reading::NoDate => Finding::Fault(Kind::NoDate),
+        calendar::DateField::Date(n) => found(calendar::is_within(n, e, 15), Kind::OutsideDays),
+        calendar::DateField::NotDigits => Finding::Fault(Kind::NotDigits),
+        calendar::DateField::NoDate => Finding::Fault(Kind::NoDate),
     }
 }
 
@@ -75,9 +75,9 @@ pub fn debit_found(s: &[u8], e: u32, c: u32) -> Finding
 {
     let d = calendar::read_date(s);
     match d {
-        calendar::Reading::Date(n) => debit_day(n, e, c),
-        calendar::Reading::NotDigits => Finding::Fault(Kind::NotDigits),
-        calendar::Reading::NoDate => Finding::Fault(Kind::NoDate),
+        calendar::DateField::Date(n) => debit_day(n, e, c),
+        calendar::DateField::NotDigits => Finding::Fault(Kind::NotDigits),
+        calendar::DateField::NoDate => Finding::Fault(Kind::NoDate),
     }
 }
 

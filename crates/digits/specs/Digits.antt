@@ -1,7 +1,7 @@
 -- Decimal fields: digits, the number that they stand for, and a number written with leading zeros.
 -- Assumes nothing.
 use Prim.Native.Nat.{ℕ, zero, suc, _+_, _-_, _*_, _/_, _%_, _^_}
-use mathlib.Core.Bool.{Bool, true, false, cond, _&&_}
+use mathlib.Core.Bool.{Bool, cond, _&&_}
 use mathlib.Core.List.{List, [], _∷_, _++_}
 use lib.ListN.{length}
 use lib.Dec.{leb, ltb}
@@ -36,3 +36,15 @@ hasRoom xs w n = leb w (length xs) && ltb n (10 ^ w)
 -- the list with the w digits of n at its front, where there is room; else the list as it was
 unfoldable pub withNumber : List ℕ → ℕ → ℕ → List ℕ
 withNumber xs w n = cond (hasRoom xs w n) (over xs 0 (figures w n)) xs
+
+-- n has at most w digits, and the list w places from a place on
+abbrev pub hasRoomAt : List ℕ → ℕ → ℕ → ℕ → Bool
+hasRoomAt xs at w n = leb (at + w) (length xs) && ltb n (10 ^ w)
+
+-- the list with the w digits of n over it from a place on, where there is room; else the list as it was
+unfoldable pub withNumberAt : List ℕ → ℕ → ℕ → ℕ → List ℕ
+withNumberAt xs at w n = cond (hasRoomAt xs at w n) (over xs at (figures w n)) xs
+
+-- the place after the digits, where there is room; else the place itself
+unfoldable pub afterNumber : List ℕ → ℕ → ℕ → ℕ → ℕ
+afterNumber xs at w n = cond (hasRoomAt xs at w n) (at + w) at

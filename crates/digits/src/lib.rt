@@ -1,11 +1,19 @@
 // Decimal fields: their digits, their numbers, and writing a number.
 ghost use mathlib.Core.Path.{_≡_};
-ghost use mathlib.Core.Bool.{cond};
 ghost use Prim.Native.Nat.{_≤_, _<_, _^_};
 ghost use lib.ListN.{length};
 ghost use lib.Dec.{ltb};
 ghost use Rattle.base.specs.Bytes.{over};
-ghost use Rattle.digits.specs.Digits.{digit, isDigits, numberOf, figures, hasRoom, withNumber};
+ghost use Rattle.digits.specs.Digits.{
+  digit,
+  isDigits,
+  numberOf,
+  figures,
+  hasRoom,
+  withNumber,
+  withNumberAt,
+  afterNumber,
+};
 
 // A byte is one of '0' to '9'.
 pub fn is_digit(b: u8) -> bool
@@ -91,4 +99,19 @@ pub fn put_number(out: &mut [u8], w: usize, n: u64) -> bool
     }
     put_figures(out, w, n);
     true
+}
+
+// The number with leading zeros in w bytes at a place of what is lent, and the place after it. Where it has more digits or the
+// bytes aren't there, the answer is the place itself and nothing is written.
+pub fn put_at(out: &mut [u8], at: usize, w: usize, n: u64) -> usize
+    ensures place { λ r. ⌜ r ≡ afterNumber (now (out .entry)) at w n ⌝ }
+    ensures bytes { λ _. ⌜ now (out .exit) ≡ withNumberAt (now (out .entry)) at w n ⌝ }
+{
+    if at > out.len() {
+        return at;
+    }
+    if !put_number(&mut out[at..], w, n) {
+        return at;
+    }
+    at + w
 }

@@ -13,10 +13,10 @@ use Rattle.base.specs.Bytes.{over}
 use Rattle.base.proofs.Every.{both}
 use Rattle.digits.specs.Digits.{isDigits, numberOf}
 use Rattle.calendar.specs.Calendar.{isDate}
-use Rattle.calendar.specs.Reading.{readingOf}
-use Rattle.calendar.specs.declared.Reading.the-variants.{Date, NotDigits, NoDate}
+use Rattle.calendar.specs.DateField.{dateField}
+use Rattle.calendar.specs.declared.DateField.the-variants.{Date, NotDigits, NoDate}
 use Rattle.lists.specs.Banks.{isBankList}
-use Rattle.files.specs.Files.{most, dateIn, dayOf, numbers, ordered, areLines, isBanks}
+use Rattle.files.specs.Files.{longest, dateIn, dayOf, numbers, ordered, areLines, isBanks}
 use Rattle.files.proofs.Lines.{count}
 
 -- what is read, where it isn't 0, is a date
@@ -28,14 +28,14 @@ picked false n q d e = absurd (false≢true (sym e))
 
 -- the day is a date
 pub day-date : (s : List ℕ) → eqb (dayOf s) 0 ≡ false → isDate (dayOf s) ≡ true
-unfolding dayOf readingOf
+unfolding dayOf dateField
 day-date s e = picked (eqb (length s) 8 && isDigits s) (numberOf s) (isDate (numberOf s)) refl e
 
 module _ (s : List ℕ) (room : ℕ) (e : isBanks s room ≡ true) where
   tests : (length s / 9 ≤ room) × (ordered s ≡ true)
   unfolding isBanks
   tests =
-      let h = both (leb (length s) most) _ e .1 in
+      let h = both (leb (length s) longest) _ e .1 in
       let i = both (eqb (length s % 9) 0) _ h .1 in
       let j = both (leb (length s / 9) room) (ordered s) i in
       (leb-true (length s / 9) room (j .0), j .1)
@@ -49,7 +49,7 @@ module _ (s : List ℕ) (room : ℕ) (e : isBanks s room ≡ true) where
   banks-list = both (areLines (length s / 9) s) (isBankList (numbers s)) (tests .1) .1
 
 -- a list of 2,777 has a place for each bank of any file
-pub always-fit : (s : List ℕ) → length s ≤ most → length s / 9 ≤ 2777
+pub always-fit : (s : List ℕ) → length s ≤ longest → length s / 9 ≤ 2777
 always-fit s h = omega arith
 
 -- the banks are the front of the list that was lent

@@ -10,7 +10,7 @@ use lib.ListN.{length}
 use Rattle.base.specs.Bytes.{over}
 use Rattle.base.proofs.Over.{length-over}
 use Rattle.base.proofs.Written.{Front, front}
-use Rattle.findings.specs.declared.refusal.Refusal.the-variants as refusal
+use Rattle.lent.specs.declared.Refusal.the-variants as refusal
 use Rattle.files.specs.declared.Given.{Given}
 use Rattle.files.specs.declared.Given.the-variants.{Files, Refused}
 use Rattle.files.specs.Files.{dayOf, numbers, isBanks, isKnownFile, givenBy, ReadAs}

@@ -8,28 +8,28 @@ use lib.ListN.{length, getD, take, drop}
 use lib.Dec.{leb, eqb}
 use Rattle.base.specs.Bytes.{over}
 use Rattle.digits.specs.Digits.{isDigits, numberOf}
-use Rattle.calendar.specs.Reading.{readingOf}
-use Rattle.calendar.specs.declared.Reading.{Reading}
-use Rattle.calendar.specs.declared.Reading.the-variants.{Date, NotDigits, NoDate}
+use Rattle.calendar.specs.DateField.{dateField}
+use Rattle.calendar.specs.declared.DateField.{DateField}
+use Rattle.calendar.specs.declared.DateField.the-variants.{Date, NotDigits, NoDate}
 use Rattle.lists.specs.Banks.{isBankList}
 use Rattle.lists.specs.Known.{isKnownList}
-use Rattle.findings.specs.declared.refusal.Refusal.the-variants as refusal
+use Rattle.lent.specs.declared.Refusal.the-variants as refusal
 use Rattle.files.specs.declared.Given.{Given}
 use Rattle.files.specs.declared.Given.the-variants.{Files, Refused}
 
 -- a file has at most so many bytes
-abbrev pub most : ℕ
-most = 25000
+abbrev pub longest : ℕ
+longest = 25000
 
 -- the date that was read, 0 for none
-abbrev pub dateIn : Reading → ℕ
+abbrev pub dateIn : DateField → ℕ
 dateIn (Date n) = n
 dateIn NotDigits = 0
 dateIn NoDate = 0
 
 -- `day`: the date that eight digits say, 0 where the file says none
 unfoldable pub dayOf : List ℕ → ℕ
-dayOf s = dateIn (readingOf s)
+dayOf s = dateIn (dateField s)
 
 -- nine bytes are a line of `banks`: eight digits and 0Ah
 abbrev pub isLine : List ℕ → Bool
@@ -55,11 +55,11 @@ ordered s = areLines (length s / 9) s && isBankList (numbers s)
 
 -- `banks`: not too long, whole lines with the numbers of a bank list, and for each number a place in a list of so many
 unfoldable pub isBanks : List ℕ → ℕ → Bool
-isBanks s room = leb (length s) most && (eqb (length s % 9) 0 && (leb (length s / 9) room && ordered s))
+isBanks s room = leb (length s) longest && (eqb (length s % 9) 0 && (leb (length s / 9) room && ordered s))
 
 -- `known`: not too long, and whole identifiers
 abbrev pub isKnownFile : List ℕ → Bool
-isKnownFile s = leb (length s) most && isKnownList s
+isKnownFile s = leb (length s) longest && isKnownList s
 
 -- the day and how many banks there are; or refusal 1, 2 or 3, in this order
 unfoldable pub givenBy : List ℕ → List ℕ → List ℕ → ℕ → Given

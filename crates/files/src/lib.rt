@@ -5,17 +5,20 @@ ghost use Prim.Native.Nat.{_/_, _≤_};
 ghost use lib.ListN.{length};
 ghost use Rattle.base.specs.Bytes.{over};
 ghost use Rattle.files.specs.Files.{dayOf, isLine, numbers, ordered, isBanks, isKnownFile, ReadAs};
-use calendar::Reading;
-use findings::refusal::Refusal;
+use calendar::DateField;
+use lent::Refusal;
 
 // The most bytes that a file may have.
-pub const MOST: usize = 25000;
+pub const LENGTH: usize = 25000;
+
+// The space that a file is read into: one byte more, so that a longer one shows.
+pub const SPACE: usize = LENGTH + 1;
 
 // A line of `banks`: eight digits and 0Ah.
 const LINE: usize = 9;
 
 // The most banks that a file can hold.
-pub const BANKS: usize = MOST / LINE;
+pub const BANKS: usize = LENGTH / LINE;
 
 // What the three files say.
 pub enum Given {
@@ -29,9 +32,9 @@ fn day(s: &[u8]) -> u32
     ensures { λ r. ⌜ r ≡ dayOf (now (s .entry)) ⌝ }
 {
     match calendar::read_date(s) {
-        Reading::Date(n) => n,
-        Reading::NotDigits => 0,
-        Reading::NoDate => 0,
+        DateField::Date(n) => n,
+        DateField::NotDigits => 0,
+        DateField::NoDate => 0,
     }
 }
 
@@ -72,7 +75,7 @@ fn in_order(s: &[u8]) -> bool
 fn is_banks(s: &[u8], room: usize) -> bool
     ensures { λ r. ⌜ r ≡ isBanks (now (s .entry)) room ⌝ }
 {
-    if s.len() > MOST {
+    if s.len() > LENGTH {
         return false;
     }
     if s.len() % LINE != 0 {
@@ -88,7 +91,7 @@ fn is_banks(s: &[u8], room: usize) -> bool
 fn is_known(s: &[u8]) -> bool
     ensures { λ r. ⌜ r ≡ isKnownFile (now (s .entry)) ⌝ }
 {
-    if s.len() > MOST {
+    if s.len() > LENGTH {
         return false;
     }
     lists::is_known_list(s)

@@ -4,7 +4,8 @@ use mathlib.Core.Path.{_≡_, refl}
 use Prim.Native.Nat.{ℕ, _<_}
 use native.Mathlib.Omega.{arith}
 use Rattle.findings.specs.declared.Kind.{Kind}
-use Rattle.findings.specs.declared.Kind.the-variants.{Letter, Mark, Form, NotDigits, CheckDigit, NoDate, OutsideDays, NotListed, Known, BlankOrZero, OutOfOrder, Other}
+use Rattle.findings.specs.declared.Kind.the-variants.{Letter, Mark, Form, NotDigits, CheckDigit, NoDate}
+use Rattle.findings.specs.declared.Kind.the-variants.{OutsideDays, NotListed, Known, BlankOrZero, OutOfOrder, Other}
 use Rattle.findings.specs.declared.Finding.{Finding}
 use Rattle.findings.specs.declared.Finding.the-variants.{Right, Fault}
 use Rattle.findings.specs.Codes.{Code, Ü, T, always, digitsElse, whole, alone, wholeCode, itemCode, eitherCode}

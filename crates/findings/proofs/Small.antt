@@ -1,7 +1,7 @@
 -- Codes of at most two digits: the first Ü code of rules whose codes are below 100.
 -- Assumes nothing.
 use mathlib.Core.List.{List, [], _∷_}
-use Prim.Native.Nat.{ℕ, _<_}
+use Prim.Native.Nat.{_<_}
 use lib.Dec.{lit<}
 use Rattle.findings.specs.declared.Kind.{Kind}
 use Rattle.findings.specs.declared.Finding.{Finding}

@@ -4,7 +4,7 @@ use Prim.Native.Nat.{ℕ}
 use Prim.Native.String.{String}
 use Rattle.findings.specs.declared.Answer.{Answer}
 use Rattle.findings.specs.declared.Answer.the-variants as answer
-use Rattle.findings.specs.Refusals.{refusalNumber}
+use Rattle.lent.specs.Lent.{refusalNumber}
 use Rattle.findings.specs.Findings.{kindNumber}
 
 -- the number of a refusal, the kind of a fault; 0 for acceptance

@@ -1,4 +1,3 @@
-pub mod Refusals
 pub mod Findings
 pub mod Codes
 pub mod Naming

@@ -1,11 +1,9 @@
-// What is found in a field: nothing wrong, or the kind of its first fault; the code that follows from it; the answer that names the
-// field (01, Calls and their answers); and why a call is refused (`refusal`).
+// What is found in a field: nothing wrong, or the kind of its first fault; the code that follows from it; and the answer that names the
+// field (01, Calls and their answers).
 ghost use mathlib.Core.Path.{_≡_};
 ghost use Rattle.frame.specs.Machine.{earlier};
 ghost use Rattle.findings.specs.Findings.{unless, kindNumber};
 ghost use Rattle.findings.specs.Codes.{Ü, always, wholeCode, eitherCode};
-
-pub mod refusal;
 
 // The kinds of fault, in 01's order.
 pub enum Kind {
@@ -31,7 +29,7 @@ pub enum Finding {
 // The answer on a single record: acceptance, a refusal, or the field named with the kind of its fault.
 pub enum Answer {
     Accepted,
-    Refused(crate::refusal::Refusal),
+    Refused(lent::Refusal),
     Type(Kind),
     MessageType(Kind),
     DuplicateCode(Kind),
@@ -64,7 +62,7 @@ pub fn found(ok: bool, k: Kind) -> Finding
 }
 
 // The first of two codes that isn't 0.
-fn earlier(c: u8, d: u8) -> u8
+pub fn earlier(c: u8, d: u8) -> u8
     ensures { λ r. ⌜ r ≡ earlier c d ⌝ }
 {
     if c == 0 { d } else { c }

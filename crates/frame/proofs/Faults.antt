@@ -3,15 +3,34 @@
 use mathlib.Core.Path.{_≡_, refl, sym, ap, _∙_}
 use mathlib.Core.Bool.{Bool, true, false, cond, not, _||_, false≢true}
 use mathlib.Core.List.{List, [], _∷_, map}
-use Prim.Native.Nat.{ℕ, zero, suc, _+_, _≤_, _<_}
+use Prim.Native.Nat.{ℕ, suc, _+_}
 use native.Mathlib.Omega.{arith}
 use lib.ListN.{length}
-use lib.Dec.{ltb, eqb}
+use lib.Dec.{eqb}
 use borrow.Author.Tests.{eqb-true, eqb-false}
 use Rattle.frame.specs.declared.Found.{Found}
-use Rattle.frame.specs.Records.{headOf, footOf, isBroken, noId}
-use Rattle.frame.specs.Verdict.{Rules, Verdict, first, any, accepted, refused, total, foundIn, messageCode, identifier, overflows, verdict, blank, counted}
-use Rattle.frame.specs.Faults.{Each, Faultless, Sound}
+use Rattle.frame.specs.declared.Closing.{Closing}
+use Rattle.frame.specs.Records.{lengths, headOf, footOf, isBroken}
+use Rattle.frame.specs.Verdict.{
+  Rules,
+  Verdict,
+  first,
+  any,
+  accepted,
+  refused,
+  total,
+  foundIn,
+  messageCode,
+  identifier,
+  overflows,
+  verdict,
+  blank,
+  overflow,
+  given,
+  counted,
+}
+use Rattle.frame.specs.Faults.{Each, Faultless}
+use Rattle.frame.specs.Sound.{Sound}
 
 -- codes that are all 0
 abbrev Zeros : List ℕ → Type 0
@@ -62,16 +81,16 @@ module _ (R : Rules) (m : List ℕ) where
   fs = foundIn R m
 
   abbrev letters : Bool
-  letters = R .headLetter (headOf (R .sizes) m) || any (map (λ f. f .letter) fs)
+  letters = R .headLetter (headOf lengths m) || any (map (λ f. f .letter) fs)
 
   -- the codes in rank order
   abbrev ranks : List ℕ
   ranks =
-      cond (isBroken (R .sizes) m) 26 0
+      cond (isBroken lengths m) 26 0
       ∷ cond letters 36 0
-      ∷ R .headCode (headOf (R .sizes) m)
+      ∷ R .headCode (headOf lengths m)
       ∷ first (map (λ f. f .fault) fs)
-      ∷ R .footCode (length fs) (total fs) (footOf (R .sizes) m)
+      ∷ R .footCode (length fs) (total fs) (footOf lengths m)
       ∷ []
 
   -- code 00 means no fault of the whole message
@@ -79,9 +98,9 @@ module _ (R : Rules) (m : List ℕ) where
   unfolding messageCode
   faultless e =
       let z = first-zeros ranks e in
-      let l = neither (R .headLetter (headOf (R .sizes) m)) (any (map (λ f. f .letter) fs)) (flag-off letters 36 (λ q. omega arith) (z .1 .0)) in
+      let l = neither (R .headLetter (headOf lengths m)) (any (map (λ f. f .letter) fs)) (flag-off letters 36 (λ q. omega arith) (z .1 .0)) in
       record {
-        unbroken = flag-off (isBroken (R .sizes) m) 26 (λ q. omega arith) (z .0);
+        unbroken = flag-off (isBroken lengths m) 26 (λ q. omega arith) (z .0);
         head-letters = l .0;
         item-letters = each-letter fs (l .1);
         head = z .1 .1 .0;
@@ -94,15 +113,18 @@ module _ (R : Rules) (m : List ℕ) where
   unfolding messageCode
   code-zero k =
       let l : letters ≡ false = ap (λ (b : Bool). b || any (map (λ f. f .letter) fs)) (k .head-letters) ∙ no-letter fs (k .item-letters) in
-      zeros-first ranks
-      (flag-on (isBroken (R .sizes) m) 26 (k .unbroken), (flag-on letters 36 l, (k .head, (zeros-first (map (λ f. f .fault) fs) (no-fault fs (k .items)), (k .foot, tt)))))
+      zeros-first ranks (
+        flag-on (isBroken lengths m) 26 (k .unbroken),
+        (flag-on letters 36 l, (k .head, (zeros-first (map (λ f. f .fault) fs) (no-fault fs (k .items)), (k .foot, tt)))),
+      )
 
 -- accepted and refused are all
 pub all-items : (fs : List Found) → length (accepted fs) + length (refused fs) ≡ length fs
 all-items [] = refl
 all-items (f ∷ fs) = go (eqb (f .code) 0) (all-items fs)
   where
-    go : (t : Bool) → length (accepted fs) + length (refused fs) ≡ length fs → length (cond t (f ∷ accepted fs) (accepted fs)) + length (cond (not t) (f ∷ refused fs) (refused fs)) ≡ suc (length fs)
+    go : (t : Bool) → length (accepted fs) + length (refused fs) ≡ length fs
+        → length (cond t (f ∷ accepted fs) (accepted fs)) + length (cond (not t) (f ∷ refused fs) (refused fs)) ≡ suc (length fs)
     go true e = omega arith
     go false e = omega arith
 
@@ -110,25 +132,29 @@ pub all-amounts : (fs : List Found) → total (accepted fs) + total (refused fs)
 all-amounts [] = refl
 all-amounts (f ∷ fs) = go (eqb (f .code) 0) (all-amounts fs)
   where
-    go : (t : Bool) → total (accepted fs) + total (refused fs) ≡ total fs → total (cond t (f ∷ accepted fs) (accepted fs)) + total (cond (not t) (f ∷ refused fs) (refused fs)) ≡ f .amount + total fs
+    go : (t : Bool) → total (accepted fs) + total (refused fs) ≡ total fs
+        → total (cond t (f ∷ accepted fs) (accepted fs)) + total (cond (not t) (f ∷ refused fs) (refused fs)) ≡ f .amount + total fs
     go true e = omega arith
     go false e = omega arith
 
 -- when the answer is code 00, the numbers are those of the foot
 module _ (R : Rules) (ok : Sound R) (t m : List ℕ) where
-  pub totals : verdict R t m .refusal ≡ 0 → verdict R t m .code ≡ 0
-      → (verdict R t m .acceptedCount + verdict R t m .refusedCount ≡ R .footCount (footOf (R .sizes) m)) × (verdict R t m .acceptedSum + verdict R t m .refusedSum ≡ R .footSum (footOf (R .sizes) m))
+  -- a closing has the foot's numbers
+  pub record Totalled (k : Closing) : Type 0 where
+    pub count : k .accepted .count + k .refused .count ≡ R .footCount (footOf lengths m)
+    pub sum : k .accepted .sum + k .refused .sum ≡ R .footSum (footOf lengths m)
+
+  pub totals : verdict R t m .refusal ≡ 0 → verdict R t m .closing .code ≡ 0 → Totalled (verdict R t m .closing)
   unfolding verdict
   totals r c = go (overflows R t m) (eqb (messageCode R m) 0) refl r c
     where
       v : Bool → Bool → Verdict
-      v o z = cond o (blank 6 0 noId) (cond z (counted (foundIn R m) (identifier R m)) (blank 0 (messageCode R m) (identifier R m)))
+      v o z = cond o overflow (given (cond z (counted (foundIn R m) (identifier R m)) (blank (messageCode R m) (identifier R m))))
 
-      go : (o z : Bool) → eqb (messageCode R m) 0 ≡ z → v o z .refusal ≡ 0 → v o z .code ≡ 0
-          → (v o z .acceptedCount + v o z .refusedCount ≡ R .footCount (footOf (R .sizes) m)) × (v o z .acceptedSum + v o z .refusedSum ≡ R .footSum (footOf (R .sizes) m))
+      go : (o z : Bool) → eqb (messageCode R m) 0 ≡ z → v o z .refusal ≡ 0 → v o z .closing .code ≡ 0 → Totalled (v o z .closing)
       go true z q r c = absurd (omega arith)
       go false true q r c =
           let k = faultless R m (eqb-true (messageCode R m) 0 q) in
-          let s = ok .foot-says (length (foundIn R m)) (total (foundIn R m)) (footOf (R .sizes) m) (k .foot) in
-          (all-items (foundIn R m) ∙ sym (s .0), all-amounts (foundIn R m) ∙ sym (s .1))
+          let s = ok .foot-says (length (foundIn R m)) (total (foundIn R m)) (footOf lengths m) (k .foot) in
+          record { count = all-items (foundIn R m) ∙ sym (s .0); sum = all-amounts (foundIn R m) ∙ sym (s .1) }
       go false false q r c = absurd (eqb-false (messageCode R m) 0 q c)

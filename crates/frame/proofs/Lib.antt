@@ -1,5 +1,5 @@
 pub mod Pieces
-pub mod Tally
+pub mod Counting
 pub mod Uncut
 pub mod Whole
 pub mod Faults

@@ -3,17 +3,17 @@
 use mathlib.Core.Path.{_≡_, refl, sym, ap, _∙_}
 use mathlib.Core.Bool.{Bool, true, false, cond, not, _&&_, false≢true}
 use mathlib.Core.List.{List, [], _∷_}
-use Prim.Native.Nat.{ℕ, zero, suc, _+_, _-_, _*_, _%_, _≤_, _<_}
+use Prim.Native.Nat.{ℕ, zero, suc, _+_, _*_, _≤_, _<_}
 use native.Mathlib.Nat.{zero-mul}
 use native.Mathlib.Omega.{arith}
 use lib.ListN.{length, getD, take, drop, length-drop}
 use lib.Seq.{drop-drop}
-use lib.Dec.{leb, ltb, eqb}
-use borrow.Author.Tests.{eq-eqb, ne-eqb, le-leb, lt-ltb, ltb-true, ltb-false, eqb-true}
+use lib.Dec.{ltb, eqb}
+use borrow.Author.Tests.{eq-eqb, ne-eqb, le-leb, lt-ltb, ltb-true, eqb-true, not-false}
 use Rattle.base.proofs.Every.{both}
-use Rattle.frame.specs.Records.{Sizes, atutal, ended, isFoot, itemStands, footStands, itemsIn, restAfter, headStands, itemsOf, restOf, isBroken}
-use Rattle.frame.specs.Places.{laterAt, recordAt}
-use Rattle.frame.specs.declared.Record.{Record}
+use Rattle.frame.specs.Records.{Sizes, lengths, headEnd, itemEnd, footEnd, ended, isFoot, itemStands, footStands, headStands}
+use Rattle.frame.specs.Records.{itemsIn, restAfter, itemsOf, restOf, isBroken}
+use Rattle.frame.specs.Places.{place, beyond, laterAt, recordAt}
 use Rattle.frame.specs.declared.Record.the-variants.{Head, Item, Foot, Break, End}
 use Rattle.frame.proofs.Uncut.{ended-long}
 
@@ -57,80 +57,119 @@ module _ (Z : Sizes) where
       go true ih = ih ∙ further (length (itemsIn Z n (drop w x))) x
       go false ih = rw zero-mul
 
--- an ATUTAL message whose head stands
-module _ (m : List ℕ) (e : headStands atutal m ≡ true) where
-  abbrev n : ℕ
-  n = length (itemsOf atutal m)
+-- laws of the sizes: a place stands after the head, with nothing beyond it; a foot is shorter than an item
+after-head : (k : ℕ) → headEnd ≤ place k
+after-head k = omega arith
 
-  items-are : itemsOf atutal m ≡ itemsIn atutal (length m) (drop 176 m)
+on-place : (k : ℕ) → beyond (place k) ≡ 0
+on-place k = omega arith
+
+off-place : (k : ℕ) → beyond (place k + footEnd) ≡ footEnd
+off-place k = omega arith
+
+module _ (m : List ℕ) where
+  -- what follows the head
+  abbrev body : List ℕ
+  body = drop headEnd m
+
+  -- without a break the head and some item stand, and the foot after the items
+  pub record Unbroken : Type 0 where
+    pub head : headStands lengths m ≡ true
+    pub some : 0 < length (itemsOf lengths m)
+    pub foot : footStands lengths (restOf lengths m) ≡ true
+
+  pub unbroken : isBroken lengths m ≡ false → Unbroken
+  unbroken b =
+      let n = length (itemsOf lengths m) in
+      let f = footStands lengths (restOf lengths m) in
+      let h = both (headStands lengths m) (ltb 0 n && f) (not-false (headStands lengths m && (ltb 0 n && f)) b) in
+      let g = both (ltb 0 n) f (h .1) in
+      record { head = h .0; some = ltb-true 0 n (g .0); foot = g .1 }
+
+  -- the end stands a foot after a place, where the message ends
+  pub at-end : (k : ℕ) → place k + footEnd ≡ length m → recordAt m (place k + footEnd) ≡ End
+  unfolding recordAt
+  at-end k h =
+      let p = place k + footEnd in
+      let low = after-head k in
+      let in-message = le-leb p (length m) (omega arith) in
+      rw (ne-eqb p 0 (λ q. omega arith), le-leb headEnd p (omega arith), in-message, off-place k, eq-eqb p (length m) h)
+
+-- a message whose head stands
+module _ (m : List ℕ) (e : headStands lengths m ≡ true) where
+  abbrev n : ℕ
+  n = length (itemsOf lengths m)
+
+  pub items-are : itemsOf lengths m ≡ itemsIn lengths (length m) (body m)
   items-are = rw e
 
-  long : 176 ≤ length m
-  long = ended-long 174 m e
-
-  pub at-head : recordAt m 0 ≡ Head 0 176
+  pub at-head : recordAt m 0 ≡ Head 0 headEnd
   unfolding recordAt
   at-head = rw e
 
-  -- a place after the head
-  beyond : (k : ℕ) → drop (k * 251) (drop 176 m) ≡ drop (176 + k * 251) m
-  beyond k = drop-drop (k * 251) 176 m
+  -- what stands k items after the head stands at a place
+  pub from-place : (k : ℕ) → drop (k * itemEnd) (body m) ≡ drop (place k) m
+  from-place k = drop-drop (k * itemEnd) headEnd m
 
-  at-later : (k : ℕ) → 176 + k * 251 ≤ length m → recordAt m (176 + k * 251) ≡ laterAt m (176 + k * 251)
+  at-later : (k : ℕ) → place k ≤ length m → recordAt m (place k) ≡ laterAt m (place k)
   unfolding recordAt
   at-later k h =
-      let p = 176 + k * 251 in
-      let r : (p - 176) % 251 ≡ 0 = omega arith in
-      rw (ne-eqb p 0 (λ q. omega arith), le-leb 176 p (omega arith), le-leb p (length m) h, eq-eqb ((p - 176) % 251) 0 r)
+      let p = place k in
+      let low = after-head k in
+      rw (ne-eqb p 0 (λ q. omega arith), le-leb headEnd p low, le-leb p (length m) h, eq-eqb (beyond p) 0 (on-place k))
 
   -- each item in its place, and its bytes
-  pub at-item : (k : ℕ) → k < n → (recordAt m (176 + k * 251) ≡ Item (176 + k * 251) (176 + k * 251 + 251)) × (getD (itemsOf atutal m) k [] ≡ take 249 (drop (176 + k * 251) m))
+  pub at-item : (k : ℕ) → k < n
+      → (recordAt m (place k) ≡ Item (place k) (place k + itemEnd)) × (getD (itemsOf lengths m) k [] ≡ take (lengths .item) (drop (place k) m))
   unfolding laterAt
   at-item k h =
-      let p = 176 + k * 251 in
-      let i : k < length (itemsIn atutal (length m) (drop 176 m)) = rw items-are at h in
-      let q = kth atutal (length m) (drop 176 m) k i in
-      let s : itemStands atutal (drop p m) ≡ true = sym (ap (itemStands atutal) (beyond k)) ∙ q .stands in
-      let l = ended-long 249 (drop p m) (both (not (isFoot (drop p m))) (ended 249 (drop p m)) s .1) in
-      (at-later k (omega (arith, length-drop p m)) ∙ rw s, ap (λ (l : List (List ℕ)). getD l k []) items-are ∙ q .bytes ∙ ap (take 249) (beyond k))
+      let y = drop (place k) m in
+      let i : k < length (itemsIn lengths (length m) (body m)) = rw items-are at h in
+      let q = kth lengths (length m) (body m) k i in
+      let s : itemStands lengths y ≡ true = sym (ap (itemStands lengths) (from-place k)) ∙ q .stands in
+      let l = ended-long (lengths .item) y (both (not (isFoot y)) (ended (lengths .item) y) s .1) in
+      let bytes = q .bytes ∙ ap (take (lengths .item)) (from-place k) in
+      (at-later k (omega (arith, length-drop (place k) m)) ∙ rw s, ap (λ (l : List (List ℕ)). getD l k []) items-are ∙ bytes)
 
   -- what is left after the items
-  rest-is : restOf atutal m ≡ drop (176 + n * 251) m
-  rest-is = rest-place atutal (length m) (drop 176 m) ∙ beyond (length (itemsIn atutal (length m) (drop 176 m))) ∙ ap (λ (l : List (List ℕ)). drop (176 + length l * 251) m) (sym items-are)
+  pub rest-is : restOf lengths m ≡ drop (place n) m
+  rest-is =
+      let is = itemsIn lengths (length m) (body m) in
+      rest-place lengths (length m) (body m) ∙ from-place (length is) ∙ ap (λ (l : List (List ℕ)). drop (place (length l)) m) (sym items-are)
 
   -- without a break the foot stands after the items, and ends the message
-  pub at-foot : isBroken atutal m ≡ false → (recordAt m (176 + n * 251) ≡ Foot (176 + n * 251) (176 + n * 251 + 26)) × (176 + n * 251 + 26 ≡ length m)
+  pub at-foot : isBroken lengths m ≡ false → (recordAt m (place n) ≡ Foot (place n) (place n + footEnd)) × (place n + footEnd ≡ length m)
   unfolding laterAt
   at-foot b =
-      let p = 176 + n * 251 in
-      let h = both (headStands atutal m) _ (unbroken b) in
-      let g = both (ltb 0 n) (footStands atutal (restOf atutal m)) (h .1) in
-      let some = ltb-true 0 n (g .0) in
-      let f : footStands atutal (drop p m) ≡ true = sym (ap (footStands atutal) rest-is) ∙ g .1 in
-      let f₁ = both (isFoot (drop p m)) (ended 24 (drop p m) && eqb (length (drop p m)) 26) f in
-      let f₂ = both (ended 24 (drop p m)) (eqb (length (drop p m)) 26) (f₁ .1) in
-      let l : length (drop p m) ≡ 26 = eqb-true (length (drop p m)) 26 (f₂ .1) in
-      (at-later n (omega (arith, length-drop p m)) ∙ rw (f₁ .0, lt-ltb 176 p (omega arith), f₂ .0, eq-eqb (length (drop p m)) 26 l), omega (arith, length-drop p m))
-    where
-      unbroken : not (headStands atutal m && (ltb 0 n && footStands atutal (restOf atutal m))) ≡ false → headStands atutal m && (ltb 0 n && footStands atutal (restOf atutal m)) ≡ true
-      unbroken b = not-false-true _ b
-        where
-          not-false-true : (t : Bool) → not t ≡ false → t ≡ true
-          not-false-true true q = refl
-          not-false-true false q = sym q
+      let p = place n in
+      let y = drop p m in
+      let u = unbroken m b in
+      let some = u .some in
+      let f : footStands lengths y ≡ true = sym (ap (footStands lengths) rest-is) ∙ u .foot in
+      let f₁ = both (isFoot y) (ended (lengths .foot) y && eqb (length y) footEnd) f in
+      let f₂ = both (ended (lengths .foot) y) (eqb (length y) footEnd) (f₁ .1) in
+      let l : length y ≡ footEnd = eqb-true (length y) footEnd (f₂ .1) in
+      let stands : laterAt m p ≡ Foot p (p + footEnd) = rw (f₁ .0, lt-ltb headEnd p (omega arith), f₂ .0, eq-eqb (length y) footEnd l) in
+      (at-later n (omega (arith, length-drop p m)) ∙ stands, omega (arith, length-drop p m))
 
   -- with a break after the head, the walk stops after the items
-  pub at-break : isBroken atutal m ≡ true → 176 + n * 251 ≤ length m → itemStands atutal (drop (176 + n * 251) m) ≡ false → recordAt m (176 + n * 251) ≡ Break
+  pub at-break : isBroken lengths m ≡ true → place n ≤ length m → itemStands lengths (drop (place n) m) ≡ false → recordAt m (place n) ≡ Break
   unfolding laterAt
-  at-break b h i = at-later n h ∙ rw i (go (ltb 176 p) refl (footStands atutal (drop p m)) refl)
+  at-break b h i = at-later n h ∙ rw i (go (ltb headEnd p) refl (footStands lengths (drop p m)) refl)
     where
       p : ℕ
-      p = 176 + n * 251
+      p = place n
 
-      go : (a : Bool) → ltb 176 p ≡ a → (f : Bool) → footStands atutal (drop p m) ≡ f → cond (a && f) (Foot p (p + 26)) Break ≡ Break
+      go : (a : Bool) → ltb headEnd p ≡ a → (f : Bool) → footStands lengths (drop p m) ≡ f → cond (a && f) (Foot p (p + footEnd)) Break ≡ Break
       go false q f g = refl
       go true q false g = refl
       go true q true g = absurd (false≢true (sym (ap not stood) ∙ b))
         where
-          stood : headStands atutal m && (ltb 0 n && footStands atutal (restOf atutal m)) ≡ true
-          stood = all-three (headStands atutal m) (ltb 0 n) (footStands atutal (restOf atutal m)) e (lt-ltb 0 n (omega (arith, ltb-true 176 p q))) (ap (footStands atutal) rest-is ∙ g)
+          some : ltb 0 n ≡ true
+          some = lt-ltb 0 n (omega (arith, ltb-true headEnd p q))
+
+          foot : footStands lengths (restOf lengths m) ≡ true
+          foot = ap (footStands lengths) rest-is ∙ g
+
+          stood : headStands lengths m && (ltb 0 n && footStands lengths (restOf lengths m)) ≡ true
+          stood = all-three (headStands lengths m) (ltb 0 n) (footStands lengths (restOf lengths m)) e some foot

@@ -1,27 +1,72 @@
 -- However a message is cut, reading it ends with the verdict on the uncut message, and with the same table.
 -- Assumes nothing.
 use mathlib.Core.Path.{_≡_, refl, sym, ap, _∙_}
-use mathlib.Core.Bool.{Bool, true, false, cond, not, _&&_, _||_, and-false}
+use mathlib.Core.Bool.{Bool, true, false, cond, not, _&&_, _||_}
 use mathlib.Core.List.{List, [], _∷_, _++_, map, append-nil}
-use Prim.Native.Nat.{ℕ, zero, suc, _+_, _-_, _≤_, _<_}
+use Prim.Native.Nat.{ℕ, _+_, _≤_, _<_}
 use native.Mathlib.Nat.{zero-add, sub-zero}
 use native.Mathlib.Omega.{arith}
 use lib.ListN.{length, take, drop, length-append, length-drop, length-map, drop-of-length-le}
 use lib.Seq.{length-take-le, take-all, take-append-le}
 use lib.Dec.{leb, ltb, eqb}
-use borrow.Author.Tests.{leb-true, leb-false, eq-eqb, ne-eqb, lt-ltb, le-ltb, ltb-true, ltb-false}
+use borrow.Author.Tests.{leb-true, leb-false, ne-eqb, lt-ltb, le-ltb, ltb-true}
 use Rattle.frame.specs.declared.Found.{Found}
-use Rattle.frame.specs.Records.{Sizes, noId, idOf, ended, footStands, itemsIn, restAfter, headOf, itemsOf, restOf, footOf, isBroken}
-use Rattle.frame.specs.Verdict.{Rules, Verdict, first, any, accepted, refused, total, watched, blank, counted, findings, foundIn, messageCode, identifier, overflows, verdict, tableAfter}
-use Rattle.frame.specs.Machine.{State, fresh, at, items, sum, earlier, headRead, footRead, run, closing, runs, joined}
+use Rattle.frame.specs.declared.Totals.{Totals}
+use Rattle.frame.specs.declared.Tally.{Tally}
+use Rattle.frame.specs.declared.Closing.{Closing}
+use Rattle.frame.specs.Records.{Sizes, lengths, idOf, ended, footStands, itemsIn, restAfter, headOf}
+use Rattle.frame.specs.Verdict.{
+  Rules,
+  Verdict,
+  first,
+  any,
+  accepted,
+  refused,
+  total,
+  totalsOf,
+  none,
+  watched,
+  blank,
+  overflow,
+  given,
+  counted,
+  findings,
+  foundIn,
+  messageCode,
+  identifier,
+  overflows,
+  verdict,
+  tableAfter,
+}
+use Rattle.frame.specs.Machine.{State, fresh, at, items, sum, earlier, numbers, headTally, headRead, footTally, footRead, run, closing, runs, joined}
 use Rattle.frame.proofs.Pieces.{run-append}
-use Rattle.frame.proofs.Tally.{tally, findings-length, tally-phase, tally-held, tally-id, tally-letter, tally-code, tally-accepted, tally-accepted-sum, tally-refused, tally-refused-sum, tally-zeros, tally-items, tally-sum, tally-table, earlier-assoc, none-earlier, map-take, findings-take}
+use Rattle.frame.proofs.Counting.{
+  tallied,
+  findings-length,
+  tally-phase,
+  tally-held,
+  tally-id,
+  tally-letter,
+  tally-code,
+  tally-accepted,
+  tally-accepted-sum,
+  tally-refused,
+  tally-refused-sum,
+  tally-zeros,
+  tally-items,
+  tally-sum,
+  tally-table,
+  earlier-assoc,
+  none-earlier,
+  map-take,
+  findings-take,
+}
 use Rattle.frame.proofs.Uncut.{Ends, ended-long, rest-ends, rest-no-item, run-items, run-over, head-first, headless}
 
 -- a message whose head stands
-module _ (R : Rules) (t m : List ℕ) (e : ended (R .sizes .head) m ≡ true) where
+module _ (R : Rules) (t m : List ℕ) (e : ended (lengths .head) m ≡ true) where
   abbrev Z : Sizes
-  Z = R .sizes
+  Z = lengths
 
   abbrev head : List ℕ
   head = headOf Z m
@@ -45,22 +90,22 @@ module _ (R : Rules) (t m : List ℕ) (e : ended (R .sizes .head) m ≡ true) wh
   after-head : State
   after-head =
       record {
-        phase = 1;
+        tally = record {
+          phase = 1;
+          told = R .tells head;
+          letter = R .headLetter head;
+          code = R .headCode head;
+          accepted = none;
+          refused = none;
+          zeros = 0;
+          id = idOf head;
+        };
         held = [];
-        told = R .tells head;
-        letter = R .headLetter head;
-        code = R .headCode head;
-        acceptedCount = 0;
-        acceptedSum = 0;
-        refusedCount = 0;
-        refusedSum = 0;
-        zeros = 0;
-        id = idOf head;
         table = t;
       }
 
   is-after : s₀ ≡ after-head
-  unfolding headRead after-head
+  unfolding headTally headRead after-head
   is-after = refl
 
   started : run R (fresh t) m ≡ run R after-head x
@@ -103,14 +148,14 @@ module _ (R : Rules) (t m : List ℕ) (e : ended (R .sizes .head) m ≡ true) wh
     unfolding kept
     kept-length = findings-length R (R .tells head) 1 (take (length t) its) ∙ length-take-le (length t) its (omega arith)
 
-    over-run : run R after-head x ≡ at 4 [] (tally R after-head kept)
+    over-run : run R after-head x ≡ at 4 [] (tallied after-head kept)
     unfolding after-head kept
     over-run = rw sub-zero at (run-over R (length m) after-head x few refl refl (omega arith) (omega arith))
 
-    over-table : tally R after-head kept .table ≡ tableAfter R t m
+    over-table : tallied after-head kept .table ≡ tableAfter R t m
     unfolding after-head
     over-table =
-        tally-table R after-head kept (omega (arith, kept-length))
+        tally-table after-head kept (omega (arith, kept-length))
         ∙ ap (λ (l : List ℕ). l ++ drop (0 + length kept) t) kept-is
         ∙ ap (λ (l : List ℕ). take (length t) codes ++ l) (drop-of-length-le t {i = 0 + length kept} (omega (arith, kept-length)))
         ∙ append-nil (take (length t) codes)
@@ -124,88 +169,84 @@ module _ (R : Rules) (t m : List ℕ) (e : ended (R .sizes .head) m ≡ true) wh
   module _ (o : length its ≤ length t) where
     -- the state after the items
     s₁ : State
-    s₁ = tally R after-head fs
+    s₁ = tallied after-head fs
 
     items-run : run R after-head x ≡ run R s₁ y
     unfolding after-head s₁
     items-run = run-items R (length m) after-head x few refl refl (omega arith)
 
-    s₁-phase : s₁ .phase ≡ 1
+    s₁-phase : s₁ .tally .phase ≡ 1
     unfolding s₁ after-head
-    s₁-phase = tally-phase R after-head fs refl
+    s₁-phase = tally-phase after-head fs refl
 
     s₁-held : s₁ .held ≡ []
     unfolding s₁ after-head
-    s₁-held = tally-held R after-head fs refl
+    s₁-held = tally-held after-head fs refl
 
-    s₁-id : s₁ .id ≡ identifier R m
+    s₁-id : s₁ .tally .id ≡ identifier R m
     unfolding s₁ after-head
-    s₁-id = tally-id R after-head fs ∙ sym named
+    s₁-id = tally-id after-head fs ∙ sym named
 
-    s₁-items : items s₁ ≡ length fs
+    s₁-items : items (s₁ .tally) ≡ length fs
     unfolding s₁ after-head
-    s₁-items = tally-items R after-head fs ∙ zero-add (length fs)
+    s₁-items = tally-items after-head fs ∙ zero-add (length fs)
 
-    s₁-sum : sum s₁ ≡ total fs
+    s₁-sum : sum (s₁ .tally) ≡ total fs
     unfolding s₁ after-head
-    s₁-sum = tally-sum R after-head fs ∙ zero-add (total fs)
+    s₁-sum = tally-sum after-head fs ∙ zero-add (total fs)
 
-    s₁-letter : s₁ .letter ≡ R .headLetter head || any (map (λ f. f .letter) fs)
+    s₁-letter : s₁ .tally .letter ≡ R .headLetter head || any (map (λ f. f .letter) fs)
     unfolding s₁ after-head
-    s₁-letter = tally-letter R after-head fs
+    s₁-letter = tally-letter after-head fs
 
-    s₁-code : s₁ .code ≡ earlier (R .headCode head) (first (map (λ f. f .fault) fs))
+    s₁-code : s₁ .tally .code ≡ earlier (R .headCode head) (first (map (λ f. f .fault) fs))
     unfolding s₁ after-head
-    s₁-code = tally-code R after-head fs
+    s₁-code = tally-code after-head fs
 
     s₁-table : s₁ .table ≡ tableAfter R t m
     unfolding s₁ after-head codes
     s₁-table =
-        let n : length (codes ++ drop (length its) t) ≤ length t = omega (arith, length-append codes (drop (length its) t), codes-length, length-drop (length its) t) in
-        tally-table R after-head fs (omega (arith, found-length))
+        let n : length (codes ++ drop (length its) t) ≤ length t =
+        omega (arith, length-append codes (drop (length its) t), codes-length, length-drop (length its) t) in
+        tally-table after-head fs (omega (arith, found-length))
         ∙ ap (λ (n : ℕ). codes ++ drop n t) (zero-add (length fs) ∙ found-length)
         ∙ sym (take-all (length t) (codes ++ drop (length its) t) n)
         ∙ sym table-is
 
     -- the numbers of that state
-    numbers : State → Verdict
-    numbers s =
-        record {
-          refusal = 0;
-          code = 0;
-          acceptedCount = s .acceptedCount;
-          acceptedSum = s .acceptedSum;
-          refusedCount = s .refusedCount;
-          refusedSum = s .refusedSum;
-          zeros = s .zeros;
-          id = s .id;
-        }
+    totals-are : {n m k l : ℕ} → n ≡ k → m ≡ l → _≡_ {A = Totals} (record { count = n; sum = m }) (record { count = k; sum = l })
+    totals-are p q = λ i. record { count = p i; sum = q i }
 
-    s₁-numbers : numbers s₁ ≡ counted fs (identifier R m)
-    unfolding numbers s₁ after-head
-    s₁-numbers =
-        λ i. record {
-          refusal = 0;
-          code = 0;
-          acceptedCount = (tally-accepted R after-head fs ∙ zero-add (length (accepted fs))) i;
-          acceptedSum = (tally-accepted-sum R after-head fs ∙ zero-add (total (accepted fs))) i;
-          refusedCount = (tally-refused R after-head fs ∙ zero-add (length (refused fs))) i;
-          refusedSum = (tally-refused-sum R after-head fs ∙ zero-add (total (refused fs))) i;
-          zeros = (tally-zeros R after-head fs ∙ zero-add (watched (accepted fs))) i;
-          id = s₁-id i;
-        }
+    s₁-accepted : s₁ .tally .accepted ≡ totalsOf (accepted fs)
+    unfolding s₁ after-head
+    s₁-accepted =
+        totals-are (tally-accepted after-head fs ∙ zero-add (length (accepted fs))) (tally-accepted-sum after-head fs ∙ zero-add (total (accepted fs)))
+
+    s₁-refused : s₁ .tally .refused ≡ totalsOf (refused fs)
+    unfolding s₁ after-head
+    s₁-refused =
+        totals-are (tally-refused after-head fs ∙ zero-add (length (refused fs))) (tally-refused-sum after-head fs ∙ zero-add (total (refused fs)))
+
+    s₁-zeros : s₁ .tally .zeros ≡ watched (accepted fs)
+    unfolding s₁ after-head
+    s₁-zeros = tally-zeros after-head fs ∙ zero-add (watched (accepted fs))
+
+    s₁-numbers : numbers (s₁ .tally) ≡ counted fs (identifier R m)
+    s₁-numbers = λ i. record { code = 0; accepted = s₁-accepted i; refused = s₁-refused i; zeros = s₁-zeros i; id = s₁-id i }
 
     -- what closing says after the foot
-    foot-closing : (s : State) (r : List ℕ) → (items s ≡ 0 → ⊥) → (c : ℕ) → earlier (s .code) (R .footCode (items s) (sum s) r) ≡ c
-        → closing (footRead R s r) ≡ cond (s .letter) (blank 0 36 (s .id)) (cond (eqb c 0) (numbers s) (blank 0 c (s .id)))
-    unfolding footRead closing numbers
-    foot-closing s r q c k = rw (ne-eqb (items s) 0 q, k)
+    foot-closing : (s : State) (r : List ℕ) → (items (s .tally) ≡ 0 → ⊥) → (c : ℕ)
+        → earlier (s .tally .code) (R .footCode (items (s .tally)) (sum (s .tally)) r) ≡ c
+        → closing (footRead R s r .tally)
+        ≡ given (cond (s .tally .letter) (blank 36 (s .tally .id)) (cond (eqb c 0) (numbers (s .tally)) (blank c (s .tally .id))))
+    unfolding footRead footTally closing
+    foot-closing s r q c k = rw (ne-eqb (items (s .tally)) 0 q, k)
 
     -- the codes of head, items and foot, ranked
     abbrev ranked : ℕ
     ranked = first (R .headCode head ∷ first (map (λ f. f .fault) fs) ∷ R .footCode (length fs) (total fs) (take (Z .foot) y) ∷ [])
 
-    s₁-ranked : earlier (s₁ .code) (R .footCode (items s₁) (sum s₁) (take (Z .foot) y)) ≡ ranked
+    s₁-ranked : earlier (s₁ .tally .code) (R .footCode (items (s₁ .tally)) (sum (s₁ .tally)) (take (Z .foot) y)) ≡ ranked
     s₁-ranked =
         let a = R .headCode head in
         let b = first (map (λ f. f .fault) fs) in
@@ -220,13 +261,20 @@ module _ (R : Rules) (t m : List ℕ) (e : ended (R .sizes .head) m ≡ true) wh
 
     -- what follows from a foot that stands after some item, and from the letters
     abbrev by : Bool → Bool → Verdict
-    by stands l = cond stands (cond l (blank 0 36 id) (cond (eqb ranked 0) (counted fs id) (blank 0 ranked id))) (blank 0 26 id)
+    by stands l = given (cond stands (cond l (blank 36 id) (cond (eqb ranked 0) (counted fs id) (blank ranked id))) (blank 26 id))
 
     code-is : messageCode R m ≡ cond (footStands Z y && ltb 0 (length its)) (cond letters 36 ranked) 26
     unfolding messageCode
     code-is = rw e (go (ltb 0 (length its)) (footStands Z y) letters)
       where
-        go : (a b l : Bool) → first (cond (not (a && b)) 26 0 ∷ cond l 36 0 ∷ R .headCode head ∷ first (map (λ f. f .fault) fs) ∷ R .footCode (length fs) (total fs) (take (Z .foot) y) ∷ [])
+        go : (a b l : Bool)
+            → first
+            (cond (not (a && b)) 26 0
+            ∷ cond l 36 0
+            ∷ R .headCode head
+            ∷ first (map (λ f. f .fault) fs)
+            ∷ R .footCode (length fs) (total fs) (take (Z .foot) y)
+            ∷ [])
             ≡ cond (b && a) (cond l 36 ranked) 26
         go true true true = refl
         go true true false = refl
@@ -234,44 +282,58 @@ module _ (R : Rules) (t m : List ℕ) (e : ended (R .sizes .head) m ≡ true) wh
         go false true l = refl
         go false false l = refl
 
-    opened : verdict R t m ≡ cond (ltb (length t) (length fs)) (blank 6 0 noId) (cond (eqb (messageCode R m) 0) (counted fs id) (blank 0 (messageCode R m) id))
+    -- the verdict, with a message code
+    abbrev coded : ℕ → Verdict
+    coded c = given (cond (eqb c 0) (counted fs id) (blank c id))
+
+    opened : verdict R t m ≡ cond (ltb (length t) (length fs)) overflow (coded (messageCode R m))
     unfolding verdict
     opened = rw found
 
     verdict-is : verdict R t m ≡ by (footStands Z y && ltb 0 (length its)) letters
     verdict-is =
         opened
-        ∙ ap (λ (b : Bool). cond b (blank 6 0 noId) (cond (eqb (messageCode R m) 0) (counted fs id) (blank 0 (messageCode R m) id))) (le-ltb (length t) (length fs) (omega (arith, found-length)))
-        ∙ ap (λ (c : ℕ). cond (eqb c 0) (counted fs id) (blank 0 c id)) code-is
+        ∙ ap (λ (b : Bool). cond b overflow (coded (messageCode R m))) (le-ltb (length t) (length fs) (omega (arith, found-length)))
+        ∙ ap coded code-is
         ∙ go (footStands Z y && ltb 0 (length its)) letters
       where
-        go : (b l : Bool) → cond (eqb (cond b (cond l 36 ranked) 26) 0) (counted fs id) (blank 0 (cond b (cond l 36 ranked) 26) id) ≡ by b l
+        go : (b l : Bool) → coded (cond b (cond l 36 ranked) 26) ≡ by b l
         go true true = refl
         go true false = refl
         go false l = refl
 
-    closing-is : cond (footStands Z y && ltb 0 (items s₁)) (closing (footRead R s₁ (take (Z .foot) y))) (blank 0 26 (s₁ .id)) ≡ by (footStands Z y && ltb 0 (length its)) letters
+    -- the state after the foot, or the break in its place
+    abbrev c₁ : Tally
+    c₁ = s₁ .tally
+
+    abbrev footed : Verdict
+    footed = closing (footRead R s₁ (take (Z .foot) y) .tally)
+
+    closing-is : cond (footStands Z y && ltb 0 (items c₁)) footed (given (blank 26 (c₁ .id))) ≡ by (footStands Z y && ltb 0 (length its)) letters
     closing-is = go (footStands Z y) (ltb 0 (length its)) refl
       where
-        same-items : ltb 0 (items s₁) ≡ ltb 0 (length its)
+        same-items : ltb 0 (items c₁) ≡ ltb 0 (length its)
         same-items = ap (ltb 0) (s₁-items ∙ found-length)
 
-        says : ltb 0 (length its) ≡ true → closing (footRead R s₁ (take (Z .foot) y)) ≡ by true letters
-        says q =
-            let n : items s₁ ≡ 0 → ⊥ = λ k. omega (arith, ltb-true 0 (length its) q, s₁-items, found-length) in
-            foot-closing s₁ (take (Z .foot) y) n ranked s₁-ranked
-            ∙ ap (λ (l : Bool). cond l (blank 0 36 (s₁ .id)) (cond (eqb ranked 0) (numbers s₁) (blank 0 ranked (s₁ .id)))) s₁-letter
-            ∙ ap (λ (v : Verdict). cond letters (blank 0 36 (s₁ .id)) (cond (eqb ranked 0) v (blank 0 ranked (s₁ .id)))) s₁-numbers
-            ∙ ap (λ (i : List ℕ). cond letters (blank 0 36 i) (cond (eqb ranked 0) (counted fs id) (blank 0 ranked i))) s₁-id
+        broken : given (blank 26 (c₁ .id)) ≡ given (blank 26 id)
+        broken = ap (λ (i : List ℕ). given (blank 26 i)) s₁-id
 
-        go : (b a : Bool) → ltb 0 (length its) ≡ a → cond (b && ltb 0 (items s₁)) (closing (footRead R s₁ (take (Z .foot) y))) (blank 0 26 (s₁ .id)) ≡ by (b && a) letters
+        says : ltb 0 (length its) ≡ true → footed ≡ by true letters
+        says q =
+            let n : items c₁ ≡ 0 → ⊥ = λ k. omega (arith, ltb-true 0 (length its) q, s₁-items, found-length) in
+            foot-closing s₁ (take (Z .foot) y) n ranked s₁-ranked
+            ∙ ap (λ (l : Bool). given (cond l (blank 36 (c₁ .id)) (cond (eqb ranked 0) (numbers c₁) (blank ranked (c₁ .id))))) s₁-letter
+            ∙ ap (λ (k : Closing). given (cond letters (blank 36 (c₁ .id)) (cond (eqb ranked 0) k (blank ranked (c₁ .id))))) s₁-numbers
+            ∙ ap (λ (i : List ℕ). given (cond letters (blank 36 i) (cond (eqb ranked 0) (counted fs id) (blank ranked i)))) s₁-id
+
+        go : (b a : Bool) → ltb 0 (length its) ≡ a → cond (b && ltb 0 (items c₁)) footed (given (blank 26 (c₁ .id))) ≡ by (b && a) letters
         go true true q = rw (same-items, q) (says q)
-        go true false q = rw (same-items, q) (ap (blank 0 26) s₁-id)
-        go false a q = ap (blank 0 26) s₁-id
+        go true false q = rw (same-items, q) broken
+        go false a q = broken
 
     room-ends : Ends (run R (fresh t) m) (verdict R t m) (tableAfter R t m)
     room-ends =
-        let k = rest-ends R s₁ s₁-phase s₁-held y (rest-no-item R (length m) x few) in
+        let k = rest-ends R s₁ s₁-phase s₁-held y (rest-no-item (length m) x few) in
         rw (started, items-run) (record { says = k .says ∙ closing-is ∙ sym verdict-is; bytes = k .bytes ∙ s₁-table })
 
   head-ends : Ends (run R (fresh t) m) (verdict R t m) (tableAfter R t m)
@@ -283,9 +345,9 @@ module _ (R : Rules) (t m : List ℕ) (e : ended (R .sizes .head) m ≡ true) wh
 
 -- a message run from a fresh state ends with the verdict on the uncut message, and its table
 pub uncut : (R : Rules) (t m : List ℕ) → Ends (run R (fresh t) m) (verdict R t m) (tableAfter R t m)
-uncut R t m = go (ended (R .sizes .head) m) refl
+uncut R t m = go (ended (lengths .head) m) refl
   where
-    go : (b : Bool) → ended (R .sizes .head) m ≡ b → Ends (run R (fresh t) m) (verdict R t m) (tableAfter R t m)
+    go : (b : Bool) → ended (lengths .head) m ≡ b → Ends (run R (fresh t) m) (verdict R t m) (tableAfter R t m)
     go true e = head-ends R t m e
     go false e = headless R t m e
 

@@ -2,11 +2,11 @@
 -- Assumes nothing.
 use Prim.Native.Nat.{ℕ}
 use mathlib.Core.Path.{_≡_}
-use mathlib.Core.Bool.{Bool, false}
+use mathlib.Core.Bool.{false}
 use mathlib.Core.List.{List, [], _∷_}
 use lib.ListN.{length}
 use Rattle.frame.specs.declared.Found.{Found}
-use Rattle.frame.specs.Records.{headOf, footOf, isBroken}
+use Rattle.frame.specs.Records.{lengths, headOf, footOf, isBroken}
 use Rattle.frame.specs.Verdict.{Rules, foundIn, total}
 
 -- something holds of each item
@@ -16,13 +16,9 @@ Each P (f ∷ fs) = P f × Each P fs
 
 -- no break, no bad letter, and no fault in head, items or foot
 pub record Faultless (R : Rules) (m : List ℕ) : Type 0 where
-  pub unbroken : isBroken (R .sizes) m ≡ false
-  pub head-letters : R .headLetter (headOf (R .sizes) m) ≡ false
+  pub unbroken : isBroken lengths m ≡ false
+  pub head-letters : R .headLetter (headOf lengths m) ≡ false
   pub item-letters : Each (λ f. f .letter ≡ false) (foundIn R m)
-  pub head : R .headCode (headOf (R .sizes) m) ≡ 0
+  pub head : R .headCode (headOf lengths m) ≡ 0
   pub items : Each (λ f. f .fault ≡ 0) (foundIn R m)
-  pub foot : R .footCode (length (foundIn R m)) (total (foundIn R m)) (footOf (R .sizes) m) ≡ 0
-
--- a foot without a fault states the items' number and sum
-pub record Sound (R : Rules) : Type 0 where
-  pub foot-says : (count sum : ℕ) (r : List ℕ) → R .footCode count sum r ≡ 0 → (R .footCount r ≡ count) × (R .footSum r ≡ sum)
+  pub foot : R .footCode (length (foundIn R m)) (total (foundIn R m)) (footOf lengths m) ≡ 0

@@ -3,3 +3,4 @@ pub mod Places
 pub mod Verdict
 pub mod Machine
 pub mod Faults
+pub mod Sound

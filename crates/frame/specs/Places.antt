@@ -1,28 +1,36 @@
 -- Where the records of an ATUTAL message stand, for a walk over it (01, Records).
 -- Assumes nothing.
-use Prim.Native.Nat.{ℕ, _+_, _-_, _%_}
-use mathlib.Core.Bool.{Bool, cond, _&&_}
+use Prim.Native.Nat.{ℕ, _+_, _-_, _*_, _%_}
+use mathlib.Core.Bool.{cond, _&&_}
 use mathlib.Core.List.{List}
 use lib.ListN.{length, drop}
 use lib.Dec.{leb, ltb, eqb}
-use Rattle.frame.specs.Records.{atutal, isFoot, headStands, itemStands, footStands}
+use Rattle.frame.specs.Records.{lengths, headEnd, itemEnd, footEnd, headStands, itemStands, footStands}
 use Rattle.frame.specs.declared.Record.{Record}
 use Rattle.frame.specs.declared.Record.the-variants.{Head, Item, Foot, Break, End}
+
+-- where the record after the head and k items begins
+abbrev pub place : ℕ → ℕ
+place k = headEnd + k * itemEnd
 
 -- after the head: an item, or the foot if some item stands before it
 unfoldable pub laterAt : List ℕ → ℕ → Record
 laterAt m at =
-    cond (itemStands atutal (drop at m))
-    (Item at (at + 251))
-    (cond (ltb 176 at && footStands atutal (drop at m)) (Foot at (at + 26)) Break)
+    cond (itemStands lengths (drop at m))
+    (Item at (at + itemEnd))
+    (cond (ltb headEnd at && footStands lengths (drop at m)) (Foot at (at + footEnd)) Break)
 
--- the head stands at 0, each later record 176 + 251 k bytes on, and the end 26 bytes after such a place
+-- how far a position stands beyond the last place at or before it
+abbrev pub beyond : ℕ → ℕ
+beyond at = (at - headEnd) % itemEnd
+
+-- the head stands at 0, each later record at a place, and the end a foot beyond one
 unfoldable pub recordAt : List ℕ → ℕ → Record
 recordAt m at =
     cond (eqb at 0)
-    (cond (headStands atutal m) (Head 0 176) Break)
-    (cond (leb 176 at && leb at (length m))
-    (cond (eqb ((at - 176) % 251) 0)
+    (cond (headStands lengths m) (Head 0 headEnd) Break)
+    (cond (leb headEnd at && leb at (length m))
+    (cond (eqb (beyond at) 0)
     (laterAt m at)
-    (cond (eqb at (length m) && eqb ((at - 176) % 251) 26) End Break))
+    (cond (eqb at (length m) && eqb (beyond at) footEnd) End Break))
     Break)

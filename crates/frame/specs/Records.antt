@@ -1,7 +1,7 @@
 -- Cutting a message into records (01, Records): the head, the complete items before any break, the foot, and whether there is a break.
 -- Assumes nothing.
-use Prim.Native.Nat.{ℕ, zero, suc, _+_, _-_, _%_}
-use mathlib.Core.Bool.{Bool, true, false, cond, not, _&&_}
+use Prim.Native.Nat.{ℕ, zero, suc, _+_}
+use mathlib.Core.Bool.{Bool, cond, not, _&&_}
 use mathlib.Core.List.{List, [], _∷_}
 use lib.ListN.{length, getD, take, drop, replicate}
 use lib.Dec.{leb, ltb, eqb}
@@ -13,9 +13,19 @@ pub record Sizes : Type 0 where
   pub item : ℕ
   pub foot : ℕ
 
--- ATUTAL
-abbrev pub atutal : Sizes
-atutal = record { head = 174; item = 249; foot = 24 }
+-- the lengths of head, item and foot without their ending (002, 1.1, 1.3, 1.2)
+abbrev pub lengths : Sizes
+lengths = record { head = 174; item = 249; foot = 24 }
+
+-- their sizes with it
+abbrev pub headEnd : ℕ
+headEnd = lengths .head + 2
+
+abbrev pub itemEnd : ℕ
+itemEnd = lengths .item + 2
+
+abbrev pub footEnd : ℕ
+footEnd = lengths .foot + 2
 
 -- the first n bytes are a record with its ending, 0Dh 0Ah
 unfoldable pub ended : ℕ → List ℕ → Bool

@@ -1,17 +1,17 @@
 -- The verdict on a message that is not cut, for any field rules (01, Faults of the whole message; Calls and their answers).
 -- Assumes nothing.
 use Prim.Native.Nat.{ℕ, _+_}
-use mathlib.Core.Bool.{Bool, true, false, cond, not, _&&_, _||_}
+use mathlib.Core.Bool.{Bool, false, cond, not, _||_}
 use mathlib.Core.List.{List, [], _∷_, _++_, map}
 use lib.ListN.{length, take, drop}
 use lib.Dec.{ltb, eqb}
 use Rattle.frame.specs.declared.Found.{Found}
-use Rattle.frame.specs.Records.{Sizes, noId, idOf, headStands, headOf, itemsOf, footOf, isBroken}
+use Rattle.frame.specs.declared.Totals.{Totals}
+use Rattle.frame.specs.declared.Closing.{Closing}
+use Rattle.frame.specs.Records.{lengths, noId, idOf, headStands, headOf, itemsOf, footOf, isBroken}
 
 -- the field rules of a kind of message. A code is 0 where no fault is found
 pub record Rules : Type 0 where
-  -- the lengths of its records
-  pub sizes : Sizes
   -- what the head tells the rules of the items: the one thing that they may take from it
   pub tells : List ℕ → ℕ
   -- a bad letter in the head's text, and the code of its first fault
@@ -58,41 +58,37 @@ total (f ∷ fs) = f .amount + total fs
 abbrev pub watched : List Found → ℕ
 watched fs = length (those (λ f. f .zero) fs)
 
--- what closing gives: refusal 6 or 0, the message code, accepted count and sum, refused count and sum, the zero watch, the identifier
+-- how many they are, and the sum of their amounts
+abbrev pub totalsOf : List Found → Totals
+totalsOf fs = record { count = length fs; sum = total fs }
+
+abbrev pub none : Totals
+none = record { count = 0; sum = 0 }
+
+-- what closing gives: refusal 6 or 0, and the numbers
 pub record Verdict : Type 0 where
   pub refusal : ℕ
-  pub code : ℕ
-  pub acceptedCount : ℕ
-  pub acceptedSum : ℕ
-  pub refusedCount : ℕ
-  pub refusedSum : ℕ
-  pub zeros : ℕ
-  pub id : List ℕ
+  pub closing : Closing
 
--- a verdict with its five numbers at 0
-abbrev pub blank : ℕ → ℕ → List ℕ → Verdict
-blank r c id =
-    record {
-      refusal = r;
-      code = c;
-      acceptedCount = 0;
-      acceptedSum = 0;
-      refusedCount = 0;
-      refusedSum = 0;
-      zeros = 0;
-      id = id;
-    }
+-- a message code and an identifier, with the five numbers at 0
+abbrev pub blank : ℕ → List ℕ → Closing
+blank c id = record { code = c; accepted = none; refused = none; zeros = 0; id = id }
+
+-- refused, with nothing to say
+abbrev pub overflow : Verdict
+overflow = record { refusal = 6; closing = blank 0 noId }
+
+-- not refused
+abbrev pub given : Closing → Verdict
+given c = record { refusal = 0; closing = c }
 
 -- the items that were found, with an identifier
-abbrev pub counted : List Found → List ℕ → Verdict
+abbrev pub counted : List Found → List ℕ → Closing
 counted fs id =
     record {
-      refusal = 0;
       code = 0;
-      acceptedCount = length (accepted fs);
-      acceptedSum = total (accepted fs);
-      refusedCount = length (refused fs);
-      refusedSum = total (refused fs);
+      accepted = totalsOf (accepted fs);
+      refused = totalsOf (refused fs);
       zeros = watched (accepted fs);
       id = id;
     }
@@ -105,22 +101,22 @@ module _ (R : Rules) where
 
   -- what is found in the items of a message
   abbrev pub foundIn : List ℕ → List Found
-  foundIn m = findings (R .tells (headOf (R .sizes) m)) 1 (itemsOf (R .sizes) m)
+  foundIn m = findings (R .tells (headOf lengths m)) 1 (itemsOf lengths m)
 
   -- the ranking of 01, read downwards: break, letter, head, items in order, foot
   unfoldable pub messageCode : List ℕ → ℕ
   messageCode m =
       first
-      (cond (isBroken (R .sizes) m) 26 0
-      ∷ cond (R .headLetter (headOf (R .sizes) m) || any (map (λ f. f .letter) (foundIn m))) 36 0
-      ∷ R .headCode (headOf (R .sizes) m)
+      (cond (isBroken lengths m) 26 0
+      ∷ cond (R .headLetter (headOf lengths m) || any (map (λ f. f .letter) (foundIn m))) 36 0
+      ∷ R .headCode (headOf lengths m)
       ∷ first (map (λ f. f .fault) (foundIn m))
-      ∷ R .footCode (length (foundIn m)) (total (foundIn m)) (footOf (R .sizes) m)
+      ∷ R .footCode (length (foundIn m)) (total (foundIn m)) (footOf lengths m)
       ∷ [])
 
   -- positions 10-34 as they stand, once a head with its right ending was read; else spaces
   unfoldable pub identifier : List ℕ → List ℕ
-  identifier m = cond (headStands (R .sizes) m) (idOf (headOf (R .sizes) m)) noId
+  identifier m = cond (headStands lengths m) (idOf (headOf lengths m)) noId
 
   -- more complete items before any break than the table has bytes
   abbrev pub overflows : List ℕ → List ℕ → Bool
@@ -130,10 +126,8 @@ module _ (R : Rules) where
   unfoldable pub verdict : List ℕ → List ℕ → Verdict
   verdict t m =
       cond (overflows t m)
-      (blank 6 0 noId)
-      (cond (eqb (messageCode m) 0)
-      (counted (foundIn m) (identifier m))
-      (blank 0 (messageCode m) (identifier m)))
+      overflow
+      (given (cond (eqb (messageCode m) 0) (counted (foundIn m) (identifier m)) (blank (messageCode m) (identifier m))))
 
   -- the table afterwards: the items' codes, each in its own byte, and the other bytes as they were
   unfoldable pub tableAfter : List ℕ → List ℕ → List ℕ

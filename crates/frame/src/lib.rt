@@ -3,7 +3,7 @@
 ghost use mathlib.Core.Path.{_≡_};
 ghost use Prim.Native.Nat.{_≤_};
 ghost use lib.ListN.{length};
-ghost use Rattle.frame.specs.Records.{idOf, ended, isFoot};
+ghost use Rattle.frame.specs.Records.{headEnd, idOf, ended, isFoot};
 ghost use Rattle.frame.specs.Places.{laterAt, recordAt};
 
 // What is found in an item: a bad letter in its text, the code of its first Ü fault and of its first T fault (0 where it
@@ -14,6 +14,48 @@ pub struct Found {
     pub code: u8,
     pub amount: u64,
     pub zero: bool,
+}
+
+// How many items, and the sum of their amounts.
+pub struct Totals {
+    pub count: u64,
+    pub sum: u64,
+}
+
+// What was counted and found so far. Phase 0: in the head; 1: after it; 2: the foot is read; 3: broken; 4: overflow; 5: closed.
+// What the head told is all that the rules of items may take from it. The code is the first fault of head, items and foot.
+pub struct Tally {
+    pub phase: u8,
+    pub letter: bool,
+    pub code: u8,
+    pub told: u32,
+    pub accepted: Totals,
+    pub refused: Totals,
+    pub zeros: u64,
+    pub id: [u8; 25],
+}
+
+// What closing gives: the message code, accepted count and sum, refused count and sum, the zero watch, the identifier.
+pub struct Closing {
+    pub code: u8,
+    pub accepted: Totals,
+    pub refused: Totals,
+    pub zeros: u64,
+    pub id: [u8; 25],
+}
+
+// What a STATUS says: duplicate code, the order's positions 10-34, the reply's date, number and time, the message code,
+// the four totals, and how many references there are.
+pub struct Status {
+    pub duplicate: u8,
+    pub id: [u8; 25],
+    pub date: u32,
+    pub number: u32,
+    pub time: u32,
+    pub code: u8,
+    pub accepted: Totals,
+    pub refused: Totals,
+    pub references: usize,
 }
 
 // The identifier, positions 10-34, of what begins with a head; spaces where there are fewer than 34 bytes.
@@ -64,62 +106,83 @@ pub enum Record {
     End,
 }
 
+// The bytes of a head without its ending (002, 1.1).
+pub const HEAD: usize = 174;
+
+// The bytes of an item without its ending (002, 1.3).
+pub const ITEM: usize = 249;
+
+// The bytes of a foot without its ending (002, 1.2).
+pub const FOOT: usize = 24;
+
+// The bytes of a head with it.
+pub const HEAD_ENDED: usize = HEAD + 2;
+
+// The bytes of an item with it.
+pub const ITEM_ENDED: usize = ITEM + 2;
+
+// The bytes of a foot with it.
+pub const FOOT_ENDED: usize = FOOT + 2;
+
+// The most that a head tells.
+pub const MOST_TOLD: u32 = 0;
+
 // The record after the head that begins at a position; the foot ends the message.
 fn later_at(message: &[u8], at: usize) -> Record
-    requires { ⌜ (176 ≤ at) × (at ≤ length (now message)) ⌝ }
+    requires { ⌜ (headEnd ≤ at) × (at ≤ length (now message)) ⌝ }
     ensures { λ r. ⌜ r ≡ laterAt (now (message .entry)) at ⌝ }
 {
     let x = &message[at..];
     if is_foot(x) {
-        if at == 176 {
+        if at == HEAD_ENDED {
             return Record::Break;
         }
-        if x.len() != 26 {
+        if x.len() != FOOT_ENDED {
             return Record::Break;
         }
-        if has_ending(x, 24) {
+        if has_ending(x, FOOT) {
             return Record::Foot {
                 start: at,
-                next: at + 26,
+                next: at + FOOT_ENDED,
             };
         }
         return Record::Break;
     }
-    if has_ending(x, 249) {
+    if has_ending(x, ITEM) {
         return Record::Item {
             start: at,
-            next: at + 251,
+            next: at + ITEM_ENDED,
         };
     }
     Record::Break
 }
 
-// What stands at a position: the head at 0, a later record 176 + 251 k bytes on, the end after the foot; anything else
+// What stands at a position: the head at 0, a later record a head and k items on, the end after the foot; anything else
 // is no place where a record begins, and a break.
 pub fn record_at(message: &[u8], at: usize) -> Record
     ensures { λ r. ⌜ r ≡ recordAt (now (message .entry)) at ⌝ }
 {
     if at == 0 {
-        if has_ending(message, 174) {
+        if has_ending(message, HEAD) {
             return Record::Head {
                 start: 0,
-                next: 176,
+                next: HEAD_ENDED,
             };
         }
         return Record::Break;
     }
-    if at < 176 {
+    if at < HEAD_ENDED {
         return Record::Break;
     }
     if at > message.len() {
         return Record::Break;
     }
-    let beyond = (at - 176) % 251;
+    let beyond = (at - HEAD_ENDED) % ITEM_ENDED;
     if beyond == 0 {
         return later_at(message, at);
     }
     if at == message.len() {
-        if beyond == 26 {
+        if beyond == FOOT_ENDED {
             return Record::End;
         }
     }

@@ -5,7 +5,6 @@ use mathlib.Core.List.{List}
 use Prim.Native.Nat.{ℕ, _<_}
 use lib.Dec.{eqb, lit<}
 use lib.ListN.{length}
-use Rattle.findings.specs.Codes.{Rule}
 use Rattle.findings.proofs.Small.{Small, none, more, first-lt}
 use Rattle.heads.specs.declared.HeadFound.{HeadFound}
 use Rattle.heads.specs.declared.HeadFindings.{HeadFindings}

@@ -10,6 +10,7 @@ use Rattle.base.specs.Bytes.{ascii, field}
 use Rattle.text.specs.Text.{isText}
 use Rattle.digits.specs.Digits.{numberOf}
 use Rattle.account.specs.Account.{accountOf}
+use Rattle.frame.specs.Records.{lengths}
 use Rattle.findings.specs.declared.Finding.the-variants.{Right}
 use Rattle.findings.specs.declared.Answer.the-variants as named
 use Rattle.findings.specs.Codes.{Ü, Rule, rule, always, firstWhole}
@@ -59,7 +60,7 @@ headRules e banks known r = headRulesOf (headFields e banks known r)
 -- what is found in the fields of bytes of any length: nothing where that isn't a head's
 unfoldable pub headFindings : ℕ → List ℕ → List ℕ → List ℕ → HeadFindings
 headFindings e banks known r =
-    cond (eqb (length r) 174)
+    cond (eqb (length r) (lengths .head))
     (headFields e banks known r)
     (record {
       mark = Right;
@@ -83,6 +84,6 @@ headLetter r = not (isText (field 70 174 r))
 -- what is found in a head; bytes of another length are a break
 unfoldable pub headFound : ℕ → List ℕ → List ℕ → List ℕ → HeadFound
 headFound e banks known r =
-    cond (eqb (length r) 174)
+    cond (eqb (length r) (lengths .head))
     (record { letter = headLetter r; code = firstWhole (headRules e banks known r) })
     (record { letter = false; code = 26 })

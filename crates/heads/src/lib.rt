@@ -4,6 +4,7 @@ ghost use lib.ListN.{length};
 ghost use Rattle.base.specs.Bytes.{ascii, field, same};
 ghost use Rattle.digits.specs.Digits.{numberOf};
 ghost use Rattle.findings.specs.Codes.{firstWhole};
+ghost use Rattle.frame.specs.Records.{lengths};
 ghost use Rattle.fields.specs.Fields.{identifierFound};
 ghost use Rattle.checked.specs.Checked.{debitFound};
 ghost use Rattle.heads.specs.Heads.{headFields, headFindings, headRulesOf, headFound};
@@ -47,7 +48,7 @@ fn is_atutal(s: &[u8]) -> bool
 
 // The identifier of a whole head: not one of the known list.
 fn identifier_in(r: &[u8], known: &[u8]) -> Finding
-    requires { ⌜ length (now r) ≡ 174 ⌝ }
+    requires { ⌜ length (now r) ≡ lengths .head ⌝ }
     ensures { λ f. ⌜ f ≡ identifierFound (now (known .entry)) (field 10 34 (now (r .entry))) ⌝ }
 {
     found(!lists::is_known(known, frame::identifier(r)), Kind::Known)
@@ -55,7 +56,7 @@ fn identifier_in(r: &[u8], known: &[u8]) -> Finding
 
 // The debit date of a whole head, with its date as a number; 0 where that isn't digits, and no date.
 fn debit_in(r: &[u8], e: u32) -> Finding
-    requires { ⌜ length (now r) ≡ 174 ⌝ }
+    requires { ⌜ length (now r) ≡ lengths .head ⌝ }
     ensures { λ f. ⌜ f ≡ debitFound e (numberOf (field 23 30 (now (r .entry)))) (field 59 66 (now (r .entry))) ⌝ }
 {
     let c = digits::number(&r[22..30]) as u32;
@@ -64,7 +65,7 @@ fn debit_in(r: &[u8], e: u32) -> Finding
 
 // What is found in the fields of a whole head.
 fn fields_in(r: &[u8], e: u32, banks: &[u32], known: &[u8]) -> HeadFindings
-    requires { ⌜ length (now r) ≡ 174 ⌝ }
+    requires { ⌜ length (now r) ≡ lengths .head ⌝ }
     ensures { λ f. ⌜ f ≡ headFields e (now (banks .entry)) (now (known .entry)) (now (r .entry)) ⌝ }
 {
     let b = r[8];
@@ -88,7 +89,7 @@ fn fields_in(r: &[u8], e: u32, banks: &[u32], known: &[u8]) -> HeadFindings
 pub fn all_findings(r: &[u8], e: u32, banks: &[u32], known: &[u8]) -> HeadFindings
     ensures { λ f. ⌜ f ≡ headFindings e (now (banks .entry)) (now (known .entry)) (now (r .entry)) ⌝ }
 {
-    if r.len() == 174 {
+    if r.len() == frame::HEAD {
         return fields_in(r, e, banks, known);
     }
     HeadFindings {
@@ -138,16 +139,16 @@ fn code_of(f: HeadFindings) -> u8
 }
 
 // What is found in a head, with E, the bank list and the known list; bytes of another length are a break.
-pub fn judge(r: &[u8], e: u32, banks: &[u32], known: &[u8]) -> HeadFound
+pub fn found_in(r: &[u8], e: u32, banks: &[u32], known: &[u8]) -> HeadFound
     ensures { λ x. ⌜ x ≡ headFound e (now (banks .entry)) (now (known .entry)) (now (r .entry)) ⌝ }
 {
-    if r.len() != 174 {
+    if r.len() != frame::HEAD {
         return HeadFound {
             letter: false,
             code: 26,
         };
     }
-    let letter = !text::is_text(&r[69..174]);
+    let letter = !text::is_text(&r[69..frame::HEAD]);
     let code = code_of(fields_in(r, e, banks, known));
     HeadFound { letter, code }
 }

@@ -8,14 +8,17 @@ use Prim.Native.Nat.{ℕ, _+_, _≤_}
 use native.Mathlib.Omega.{arith}
 use lib.ListN.{length}
 use lib.Dec.{leb, eqb}
-use borrow.Author.Tests.{leb-true, le-leb, eq-eqb, eqb-true}
+use borrow.Author.Tests.{leb-true, eq-eqb, eqb-true}
 use Rattle.base.specs.Bytes.{field}
 use Rattle.digits.specs.Digits.{numberOf}
 use Rattle.calendar.specs.Calendar.{isDate}
-use Rattle.lists.specs.Banks.{isBankList}
-use Rattle.lists.specs.Known.{isKnownList}
-use Rattle.frame.specs.Records.{atutal, noId, footOf}
-use Rattle.frame.specs.Verdict.{Rules, Verdict, foundIn, messageCode, identifier, overflows, verdict, tableAfter, blank, counted}
+use Rattle.lent.specs.Lent.{Lists, Lent, listRefused, by}
+use Rattle.lent.specs.declared.Refusal.{Refusal}
+use Rattle.lent.specs.declared.Refusal.the-variants as refusal
+use Rattle.lent.specs.declared.Outcome.{Outcome}
+use Rattle.lent.specs.declared.Outcome.the-variants.{Done, Refused}
+use Rattle.frame.specs.Records.{lengths, footOf}
+use Rattle.frame.specs.Verdict.{Rules, Verdict, foundIn, messageCode, identifier, overflows, verdict, tableAfter, blank, overflow, given, counted}
 use Rattle.frame.specs.Machine.{State, fresh, run, closing, joined}
 use Rattle.frame.specs.Faults.{Faultless}
 use Rattle.frame.proofs.Pieces.{run-append}
@@ -23,126 +26,145 @@ use Rattle.frame.proofs.Whole.{uncut}
 use Rattle.frame.proofs.Faults.{faultless, code-zero, totals as foot-totals}
 use Rattle.atutal.specs.Codes.{rules}
 use Rattle.atutal.proofs.Instance.{sound}
-use Rattle.findings.specs.declared.refusal.Refusal.the-variants as refusal
-use Rattle.judge.specs.declared.Outcome.{Outcome}
-use Rattle.judge.specs.declared.Outcome.the-variants.{Done, Refused}
 use Rattle.judge.specs.declared.Closed.{Closed}
-use Rattle.judge.specs.Session.{stateOf, sessionOf, inRange, give, opened, taken, tableTaken, outcomeOf, closedOf, judgedOf, tableJudged}
-use Rattle.judge.specs.Feeding.{fed, closedAs, judgedFrom, atOnce, tableAtOnce}
-use Rattle.judge.proofs.Ranges.{Kept, kept-run, kept-fresh, session-in-range, session-state}
-
--- closing looks at nothing that is held, told or in the table
-closing-session : (e n : ℕ) (s : State) → closing (stateOf (sessionOf e n s) []) ≡ closing s
-unfolding closing
-closing-session e n s = refl
+use Rattle.judge.specs.Session.{
+  most,
+  stateOf,
+  sessionOf,
+  inRange,
+  give,
+  openRefused,
+  opened,
+  pieceRefused,
+  taken,
+  tableTaken,
+  outcomeOf,
+  closedAs,
+  closedOf,
+  refusedAs,
+  wholeRefused,
+  judgedOf,
+  tableJudged,
+}
+use Rattle.judge.specs.Feeding.{fed, judgedFrom, atOnce, tableAtOnce}
+use Rattle.judge.proofs.Ranges.{Kept, kept-run, kept-fresh, session-in-range, session-state, open-passes}
 
 module _ (e : ℕ) (d : isDate e ≡ true) (n : ℕ) (s : State) (k : Kept n s) where
-  closed-is : closedOf (sessionOf e n s) ≡ closedAs (closing s)
+  closed-is : closedOf (sessionOf e n s) ≡ closedAs (closing (s .tally))
   unfolding closedOf
-  closed-is = rw (session-in-range e n s k d) (ap closedAs (closing-session e n s))
+  closed-is = rw (session-in-range e n s k d)
 
-  module _ (banks known : List ℕ) (b : isBankList banks ≡ true) (l : isKnownList known ≡ true) (p : List ℕ) where
-    next-is : taken (sessionOf e n s) p banks known (s .table) ≡ give Done (sessionOf e n (run (rules e banks known) s p))
+  -- a piece is refused where a list is
+  piece-is : (l : Lists) → pieceRefused (sessionOf e n s) l (length (s .table)) ≡ listRefused l
+  unfolding pieceRefused
+  piece-is l = rw (session-in-range e n s k d, eq-eqb (length (s .table)) n (k .room)) (go (listRefused l))
+    where
+      go : (o : Outcome) → by o Done Refused ≡ o
+      go Done = refl
+      go (Refused r) = refl
+
+  module _ (l : Lent) (i : l .day ≡ e) (q : listRefused (l .lists) ≡ Done) (p : List ℕ) where
+    next-is : taken (sessionOf e n s) p (l .lists) (s .table) ≡ give Done (sessionOf e n (run (rules l) s p))
     unfolding taken
-    next-is = rw (session-in-range e n s k d, b, l, eq-eqb (length (s .table)) n (k .room), session-state e n s k)
+    next-is = rw (piece-is (l .lists), q, session-state e n s k, ← i)
 
-    table-is : tableTaken (sessionOf e n s) p banks known (s .table) ≡ run (rules e banks known) s p .table
+    table-is : tableTaken (sessionOf e n s) p (l .lists) (s .table) ≡ run (rules l) s p .table
     unfolding tableTaken
-    table-is = rw (session-in-range e n s k d, b, l, eq-eqb (length (s .table)) n (k .room), session-state e n s k)
+    table-is = rw (piece-is (l .lists), q, session-state e n s k, ← i)
 
-module _ (e : ℕ) (banks known : List ℕ) (d : isDate e ≡ true) (b : isBankList banks ≡ true) (l : isKnownList known ≡ true) where
+-- what is lent passes: the day is one, and no list is refused
+pub record Passing (l : Lent) : Type 0 where
+  pub day : isDate (l .day) ≡ true
+  pub lists : listRefused (l .lists) ≡ Done
+
+module _ (l : Lent) (g : Passing l) where
+  abbrev e : ℕ
+  e = l .day
+
   abbrev R : Rules
-  R = rules e banks known
+  R = rules l
 
   -- the cutting doesn't show
   fed-run : (n : ℕ) (s : State) (ps : List (List ℕ)) → Kept n s
-      → fed (sessionOf e n s) (s .table) banks known ps ≡ (sessionOf e n (run R s (joined ps)), run R s (joined ps) .table)
+      → fed (sessionOf e n s) (s .table) (l .lists) ps ≡ (sessionOf e n (run R s (joined ps)), run R s (joined ps) .table)
   unfolding fed joined run
   fed-run n s [] k = refl
   fed-run n s (p ∷ ps) k =
-      rw (next-is e d n s k banks known b l p, table-is e d n s k banks known b l p, run-append R s p (joined ps))
-      (fed-run n (run R s p) ps (kept-run e banks known n s p k))
+      rw (next-is e (g .day) n s k l refl (g .lists) p, table-is e (g .day) n s k l refl (g .lists) p, run-append R s p (joined ps))
+      (fed-run n (run R s p) ps (kept-run R (sound l) n s p k))
 
-opened-is : (e : ℕ) (t : List ℕ) → isDate e ≡ true → length t ≤ 10000 → opened e t ≡ give Done (sessionOf e (length t) (fresh t))
+opened-is : (e : ℕ) (t : List ℕ) → isDate e ≡ true → length t ≤ most → opened e t ≡ give Done (sessionOf e (length t) (fresh t))
 unfolding opened
-opened-is e t d l = rw (d, le-leb (length t) 10000 l)
+opened-is e t d h = rw (open-passes e t d h)
 
 -- whatever the pieces, closing gives the verdict on the message that they make, and the table is its table
-pub great : (e : ℕ) (banks known t : List ℕ) (ps : List (List ℕ)) → isDate e ≡ true → length t ≤ 10000 → isBankList banks ≡ true → isKnownList known ≡ true
-    → (closedOf (fed (opened e t .next) t banks known ps .0) ≡ closedAs (verdict (rules e banks known) t (joined ps)))
-    × (fed (opened e t .next) t banks known ps .1 ≡ tableAfter (rules e banks known) t (joined ps))
-great e banks known t ps d l b k =
+pub great : (l : Lent) (t : List ℕ) (ps : List (List ℕ)) → Passing l → length t ≤ most
+    → (closedOf (fed (opened (l .day) t .next) t (l .lists) ps .0) ≡ closedAs (verdict (rules l) t (joined ps)))
+    × (fed (opened (l .day) t .next) t (l .lists) ps .1 ≡ tableAfter (rules l) t (joined ps))
+great l t ps g h =
     let n = length t in
-    let R = rules e banks known in
-    let o = kept-fresh t l in
+    let R = rules l in
+    let o = kept-fresh t h in
     let w = uncut R t (joined ps) in
     let s = run R (fresh t) (joined ps) in
-    rw (opened-is e t d l, fed-run e banks known d b k n (fresh t) ps o)
-    (closed-is e d n s (kept-run e banks known n (fresh t) (joined ps) o) ∙ ap closedAs (w .says), w .bytes)
+    rw (opened-is (l .day) t (g .day) h, fed-run l g n (fresh t) ps o)
+    (closed-is (l .day) (g .day) n s (kept-run R (sound l) n (fresh t) (joined ps) o) ∙ ap closedAs (w .says), w .bytes)
 
 -- judging a whole message is opening, one piece and closing, whether they are refused or not
-module _ (e : ℕ) (banks known t m : List ℕ) where
+module _ (l : Lent) (t m : List ℕ) where
   record Same : Type 0 where
-    result : judgedOf e banks known t m ≡ atOnce e banks known t m
-    bytes : tableJudged e banks known t m ≡ tableAtOnce e banks known t m
+    result : judgedOf l t m ≡ atOnce l t m
+    bytes : tableJudged l t m ≡ tableAtOnce l t m
 
-  no-day : isDate e ≡ false → Same
-  unfolding judgedOf tableJudged atOnce tableAtOnce opened
-  no-day d = record { result = rw d; bytes = rw d }
+  not-opened : (r : Refusal) → openRefused (l .day) t ≡ Refused r → Same
+  unfolding judgedOf tableJudged wholeRefused atOnce tableAtOnce opened
+  not-opened r q = record { result = rw q; bytes = rw q }
 
-  module _ (d : isDate e ≡ true) where
-    no-room : leb (length t) 10000 ≡ false → Same
-    unfolding judgedOf tableJudged atOnce tableAtOnce opened
-    no-room l = record { result = rw (d, l); bytes = rw (d, l) }
+  module _ (q : openRefused (l .day) t ≡ Done) (d : isDate (l .day) ≡ true) (h : length t ≤ most) where
+    first : pieceRefused (sessionOf (l .day) (length t) (fresh t)) (l .lists) (length t) ≡ listRefused (l .lists)
+    first = piece-is (l .day) d (length t) (fresh t) (kept-fresh t h) (l .lists)
 
-    module _ (l : length t ≤ 10000) where
-      first : inRange (sessionOf e (length t) (fresh t)) ≡ true
-      first = session-in-range e (length t) (fresh t) (kept-fresh t l) d
+    no-list : (r : Refusal) → listRefused (l .lists) ≡ Refused r → Same
+    unfolding judgedOf tableJudged wholeRefused atOnce tableAtOnce taken tableTaken
+    no-list r p =
+        let o = opened-is (l .day) t d h in
+        record { result = rw (o, q, first, p); bytes = rw (o, q, first, p) }
 
-      no-banks : isBankList banks ≡ false → Same
-      unfolding judgedOf tableJudged atOnce tableAtOnce taken tableTaken
-      no-banks b =
-          let o = opened-is e t d l in
-          let r = le-leb (length t) 10000 l in
-          record { result = rw (o, d, r, first, b); bytes = rw (o, d, r, first, b) }
+    answered : listRefused (l .lists) ≡ Done → Same
+    unfolding judgedOf tableJudged wholeRefused atOnce tableAtOnce
+    answered p =
+        let n = length t in
+        let R = rules l in
+        let f = kept-fresh t h in
+        let o = opened-is (l .day) t d h in
+        let w = uncut R t m in
+        let c = closed-is (l .day) d n (run R (fresh t) m) (kept-run R (sound l) n (fresh t) m f) ∙ ap closedAs (w .says) in
+        record {
+          result = rw (o, q, p, next-is (l .day) d n (fresh t) f l refl p m) (sym (ap judgedFrom c));
+          bytes = rw (o, q, p, table-is (l .day) d n (fresh t) f l refl p m) (sym (w .bytes));
+        }
 
-      module _ (b : isBankList banks ≡ true) where
-        no-known : isKnownList known ≡ false → Same
-        unfolding judgedOf tableJudged atOnce tableAtOnce taken tableTaken
-        no-known k =
-            let o = opened-is e t d l in
-            let r = le-leb (length t) 10000 l in
-            record { result = rw (o, d, r, first, b, k); bytes = rw (o, d, r, first, b, k) }
+    by-lists : (o : Outcome) → listRefused (l .lists) ≡ o → Same
+    by-lists (Refused r) p = no-list r p
+    by-lists Done p = answered p
 
-        given : isKnownList known ≡ true → Same
-        unfolding judgedOf tableJudged atOnce tableAtOnce
-        given k =
-            let n = length t in
-            let R = rules e banks known in
-            let f = kept-fresh t l in
-            let o = opened-is e t d l in
-            let r = le-leb (length t) 10000 l in
-            let w = uncut R t m in
-            let c = closed-is e d n (run R (fresh t) m) (kept-run e banks known n (fresh t) m f) ∙ ap closedAs (w .says) in
-            record {
-              result = rw (o, d, r, b, k, next-is e d n (fresh t) f banks known b k m) (sym (ap judgedFrom c));
-              bytes = rw (o, d, r, b, k, table-is e d n (fresh t) f banks known b k m) (sym (w .bytes));
-            }
+  refused-as : (d h : Bool) → isDate (l .day) ≡ d → leb (length t) most ≡ h
+      → openRefused (l .day) t ≡ cond d (cond h Done (Refused refusal.Table)) (Refused refusal.NotADay)
+  unfolding openRefused
+  refused-as d h p q = rw (p, q)
 
   both-same : Same
-  both-same = go (isDate e) refl (leb (length t) 10000) refl (isBankList banks) refl (isKnownList known) refl
+  both-same = go (isDate (l .day)) refl (leb (length t) most) refl
     where
-      go : (d : Bool) → isDate e ≡ d → (l : Bool) → leb (length t) 10000 ≡ l → (b : Bool) → isBankList banks ≡ b → (k : Bool) → isKnownList known ≡ k → Same
-      go false d l l′ b b′ k k′ = no-day d
-      go true d false l b b′ k k′ = no-room d l
-      go true d true l false b k k′ = no-banks d (leb-true (length t) 10000 l) b
-      go true d true l true b false k = no-known d (leb-true (length t) 10000 l) b k
-      go true d true l true b true k = given d (leb-true (length t) 10000 l) b k
+      go : (d : Bool) → isDate (l .day) ≡ d → (h : Bool) → leb (length t) most ≡ h → Same
+      go false d h p = not-opened refusal.NotADay (refused-as false h d p)
+      go true d false p = not-opened refusal.Table (refused-as true false d p)
+      go true d true p = by-lists (refused-as true true d p) d (leb-true (length t) most p) (listRefused (l .lists)) refl
 
-  pub same : judgedOf e banks known t m ≡ atOnce e banks known t m
+  pub same : judgedOf l t m ≡ atOnce l t m
   same = both-same .result
 
-  pub same-table : tableJudged e banks known t m ≡ tableAtOnce e banks known t m
+  pub same-table : tableJudged l t m ≡ tableAtOnce l t m
   same-table = both-same .bytes
 
 -- no refusal
@@ -158,47 +180,47 @@ done-none v e = go (eqb (v .refusal) 0) refl e
     go false q e = absurd (false≢true (ap isDone e))
 
 -- where nothing is refused, the code is the message's
-verdict-code : (R : Rules) (t m : List ℕ) → verdict R t m .refusal ≡ 0 → verdict R t m .code ≡ messageCode R m
+verdict-code : (R : Rules) (t m : List ℕ) → verdict R t m .refusal ≡ 0 → verdict R t m .closing .code ≡ messageCode R m
 unfolding verdict
 verdict-code R t m r = go (overflows R t m) (eqb (messageCode R m) 0) refl r
   where
     v : Bool → Bool → Verdict
-    v o z = cond o (blank 6 0 noId) (cond z (counted (foundIn R m) (identifier R m)) (blank 0 (messageCode R m) (identifier R m)))
+    v o z = cond o overflow (given (cond z (counted (foundIn R m) (identifier R m)) (blank (messageCode R m) (identifier R m))))
 
-    go : (o z : Bool) → eqb (messageCode R m) 0 ≡ z → v o z .refusal ≡ 0 → v o z .code ≡ messageCode R m
+    go : (o z : Bool) → eqb (messageCode R m) 0 ≡ z → v o z .refusal ≡ 0 → v o z .closing .code ≡ messageCode R m
     go true z q r = absurd (omega arith)
     go false true q r = sym (eqb-true (messageCode R m) 0 q)
     go false false q r = refl
 
 -- a message in any pieces, where closing isn't refused: the table had a byte for each item
-module _ (e : ℕ) (banks known t : List ℕ) (ps : List (List ℕ)) (d : isDate e ≡ true) (l : length t ≤ 10000) (b : isBankList banks ≡ true)
-    (k : isKnownList known ≡ true) where
+module _ (l : Lent) (t : List ℕ) (ps : List (List ℕ)) (g : Passing l) (h : length t ≤ most) where
   abbrev c : Closed
-  c = closedOf (fed (opened e t .next) t banks known ps .0)
+  c = closedOf (fed (opened (l .day) t .next) t (l .lists) ps .0)
 
   abbrev v : Verdict
-  v = verdict (rules e banks known) t (joined ps)
+  v = verdict (rules l) t (joined ps)
 
   says : c ≡ closedAs v
-  says = great e banks known t ps d l b k .0
+  says = great l t ps g h .0
 
   unrefused : c .outcome ≡ Done → v .refusal ≡ 0
   unrefused o = done-none v (sym (ap (λ (x : Closed). x .outcome) says) ∙ o)
 
-  code-is : c .closing .code ≡ v .code
+  code-is : c .closing .code ≡ v .closing .code
   code-is = ap (λ (x : Closed). x .closing .code) says
 
   -- with code 00, accepted and refused items number what the foot says, and their amounts make its sum
   pub totals : c .outcome ≡ Done → c .closing .code ≡ 0
-      → (c .closing .accepted .count + c .closing .refused .count ≡ numberOf (field 3 8 (footOf atutal (joined ps))))
-      × (c .closing .accepted .sum + c .closing .refused .sum ≡ numberOf (field 9 24 (footOf atutal (joined ps))))
-  totals o z = rw says (foot-totals (rules e banks known) (sound e banks known) t (joined ps) (unrefused o) (sym code-is ∙ z))
+      → (c .closing .accepted .count + c .closing .refused .count ≡ numberOf (field 3 8 (footOf lengths (joined ps))))
+      × (c .closing .accepted .sum + c .closing .refused .sum ≡ numberOf (field 9 24 (footOf lengths (joined ps))))
+  totals o z =
+      let f = foot-totals (rules l) (sound l) t (joined ps) (unrefused o) (sym code-is ∙ z) in
+      rw says (f .count, f .sum)
 
   -- code 00 exactly when there is no fault of the whole message
-  pub exactly : c .outcome ≡ Done
-      → (c .closing .code ≡ 0 → Faultless (rules e banks known) (joined ps)) × (Faultless (rules e banks known) (joined ps) → c .closing .code ≡ 0)
+  pub exactly : c .outcome ≡ Done → (c .closing .code ≡ 0 → Faultless (rules l) (joined ps)) × (Faultless (rules l) (joined ps) → c .closing .code ≡ 0)
   exactly o =
-      let R = rules e banks known in
+      let R = rules l in
       let m = joined ps in
       let q : c .closing .code ≡ messageCode R m = code-is ∙ verdict-code R t m (unrefused o) in
       (λ z. faultless R m (sym q ∙ z), λ f. q ∙ code-zero R m f)

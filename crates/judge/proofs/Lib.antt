@@ -1,4 +1,3 @@
-pub mod Arms
 pub mod Held
 pub mod Tallies
 pub mod Valid

@@ -1,6 +1,6 @@
 -- The ranges of a session: what the test of them says, and that no call yields a session outside them.
 -- Assumes nothing.
-use mathlib.Core.Path.{_≡_, refl, sym, ap, _∙_}
+use mathlib.Core.Path.{_≡_, refl, ap, _∙_}
 use mathlib.Core.Bool.{Bool, true, false, cond}
 use mathlib.Core.List.{List, [], _∷_, _++_}
 use Prim.Native.Nat.{ℕ, _+_, _*_, _≤_, _<_}
@@ -11,48 +11,67 @@ use lib.Dec.{leb, ltb, eqb}
 use borrow.Author.Tests.{leb-true, leb-false, ltb-true, eqb-true, le-leb, lt-leb, lt-ltb, eq-eqb}
 use Rattle.base.proofs.Every.{both}
 use Rattle.calendar.specs.Calendar.{isDate}
-use Rattle.lists.specs.Banks.{isBankList}
-use Rattle.lists.specs.Known.{isKnownList}
-use Rattle.frame.specs.Records.{ended, isFoot}
+use Rattle.lent.specs.Lent.{Lists, listRefused, by}
+use Rattle.lent.specs.declared.Refusal.{Refusal}
+use Rattle.lent.specs.declared.Refusal.the-variants as refusal
+use Rattle.lent.specs.declared.Outcome.{Outcome}
+use Rattle.lent.specs.declared.Outcome.the-variants.{Done, Refused}
+use Rattle.frame.specs.Records.{lengths, ended, isFoot}
 use Rattle.frame.specs.Verdict.{Rules}
+use Rattle.frame.specs.Sound.{Sound, mostCode, mostAmount, mostTold}
 use Rattle.frame.specs.Machine.{State, fresh, at, items, size, headRead, itemCounted, itemRead, footRead, judged, pushed, step, run}
-use Rattle.atutal.specs.Codes.{rules, itemFound}
-use Rattle.findings.specs.declared.refusal.Refusal.the-variants as refusal
+use Rattle.atutal.specs.Codes.{rules}
+use Rattle.atutal.proofs.Instance.{sound}
 use Rattle.judge.specs.declared.Session.{Session}
-use Rattle.judge.specs.declared.Outcome.the-variants.{Done, Refused}
-use Rattle.judge.specs.Session.{pad, stateOf, sessionOf, whole, tallyInRange, heldInRange, inRange, give, opened, taken}
-use Rattle.judge.specs.Reading.{Fit}
-use Rattle.judge.proofs.Held.{take-pad, whole-least}
-use Rattle.judge.proofs.Valid.{Valid, ready-valid, valid-at, valid-judged, judged-none}
+use Rattle.judge.specs.Session.{
+  most,
+  pad,
+  stateOf,
+  sessionOf,
+  tallyInRange,
+  heldInRange,
+  inRange,
+  give,
+  openRefused,
+  opened,
+  pieceRefused,
+  lentTo,
+  after,
+  taken,
+}
+use Rattle.judge.specs.Inner.{Fit}
+use Rattle.judge.proofs.Held.{take-pad, size-least}
+use Rattle.judge.proofs.Valid.{Valid, valid-at, valid-judged, judged-none}
 
 -- every number of a session is in its range
 pub record Ranged (s : Session) : Type 0 where
   pub day : isDate (s .day) ≡ true
-  pub most : s .room ≤ 10000
+  pub most : s .room ≤ most
   pub phase : s .tally .phase ≤ 4
-  pub code : s .tally .code ≤ 99
+  pub told : s .tally .told ≤ mostTold
+  pub code : s .tally .code ≤ mostCode
   pub items : s .tally .accepted .count + s .tally .refused .count ≤ s .room
-  pub accepted : s .tally .accepted .sum ≤ 9999999999 * s .tally .accepted .count
-  pub refused : s .tally .refused .sum ≤ 9999999999 * s .tally .refused .count
+  pub accepted : s .tally .accepted .sum ≤ mostAmount * s .tally .accepted .count
+  pub refused : s .tally .refused .sum ≤ mostAmount * s .tally .refused .count
   pub zeros : s .tally .zeros ≤ s .tally .accepted .count
-  pub early : s .tally .phase ≤ 1 → s .fill < whole (s .tally .phase) (take (s .fill) (s .held))
+  pub early : s .tally .phase ≤ 1 → s .fill < size (s .tally .phase) (take (s .fill) (s .held))
   pub late : 1 < s .tally .phase → s .fill ≡ 0
 
 module _ (p n : ℕ) (h : List ℕ) where
-  held-early : heldInRange p n h ≡ true → p ≤ 1 → n < whole p (take n h)
+  held-early : heldInRange p n h ≡ true → p ≤ 1 → n < size p (take n h)
   unfolding heldInRange
-  held-early e l = ltb-true n (whole p (take n h)) (rw (le-leb p 1 l) at e)
+  held-early e l = ltb-true n (size p (take n h)) (rw (le-leb p 1 l) at e)
 
   held-late : heldInRange p n h ≡ true → 1 < p → n ≡ 0
   unfolding heldInRange
   held-late e l = eqb-true n 0 (rw (lt-leb p 1 l) at e)
 
-  held-in : (p ≤ 1 → n < whole p (take n h)) → (1 < p → n ≡ 0) → heldInRange p n h ≡ true
+  held-in : (p ≤ 1 → n < size p (take n h)) → (1 < p → n ≡ 0) → heldInRange p n h ≡ true
   unfolding heldInRange
   held-in f g = go (leb p 1) refl
     where
-      go : (b : Bool) → leb p 1 ≡ b → cond b (ltb n (whole p (take n h))) (eqb n 0) ≡ true
-      go true q = lt-ltb n (whole p (take n h)) (f (leb-true p 1 q))
+      go : (b : Bool) → leb p 1 ≡ b → cond b (ltb n (size p (take n h))) (eqb n 0) ≡ true
+      go true q = lt-ltb n (size p (take n h)) (f (leb-true p 1 q))
       go false q = eq-eqb n 0 (g (leb-false p 1 q))
 
 -- what the test says
@@ -61,22 +80,24 @@ unfolding inRange tallyInRange
 ranged s e =
     let c = s .tally in
     let q₁ = both (isDate (s .day)) _ e in
-    let q₂ = both (leb (s .room) 10000) _ (q₁ .1) in
+    let q₂ = both (leb (s .room) most) _ (q₁ .1) in
     let q₃ = both (tallyInRange (s .room) c) (heldInRange (c .phase) (s .fill) (s .held)) (q₂ .1) in
     let t₁ = both (leb (c .phase) 4) _ (q₃ .0) in
-    let t₂ = both (leb (c .code) 99) _ (t₁ .1) in
-    let t₃ = both (leb (c .accepted .count + c .refused .count) (s .room)) _ (t₂ .1) in
-    let t₄ = both (leb (c .accepted .sum) (9999999999 * c .accepted .count)) _ (t₃ .1) in
-    let t₅ = both (leb (c .refused .sum) (9999999999 * c .refused .count)) _ (t₄ .1) in
+    let t₂ = both (leb (c .told) mostTold) _ (t₁ .1) in
+    let t₃ = both (leb (c .code) mostCode) _ (t₂ .1) in
+    let t₄ = both (leb (items c) (s .room)) _ (t₃ .1) in
+    let t₅ = both (leb (c .accepted .sum) (mostAmount * c .accepted .count)) _ (t₄ .1) in
+    let t₆ = both (leb (c .refused .sum) (mostAmount * c .refused .count)) _ (t₅ .1) in
     record {
       day = q₁ .0;
-      most = leb-true (s .room) 10000 (q₂ .0);
+      most = leb-true (s .room) most (q₂ .0);
       phase = leb-true (c .phase) 4 (t₁ .0);
-      code = leb-true (c .code) 99 (t₂ .0);
-      items = leb-true (c .accepted .count + c .refused .count) (s .room) (t₃ .0);
-      accepted = leb-true (c .accepted .sum) (9999999999 * c .accepted .count) (t₄ .0);
-      refused = leb-true (c .refused .sum) (9999999999 * c .refused .count) (t₅ .0);
-      zeros = leb-true (c .zeros) (c .accepted .count) (t₅ .1);
+      told = leb-true (c .told) mostTold (t₂ .0);
+      code = leb-true (c .code) mostCode (t₃ .0);
+      items = leb-true (items c) (s .room) (t₄ .0);
+      accepted = leb-true (c .accepted .sum) (mostAmount * c .accepted .count) (t₅ .0);
+      refused = leb-true (c .refused .sum) (mostAmount * c .refused .count) (t₆ .0);
+      zeros = leb-true (c .zeros) (c .accepted .count) (t₆ .1);
       early = held-early (c .phase) (s .fill) (s .held) (q₃ .1);
       late = held-late (c .phase) (s .fill) (s .held) (q₃ .1);
     }
@@ -88,12 +109,13 @@ in-range s v =
     let c = s .tally in
     rw (
       v .day,
-      le-leb (s .room) 10000 (v .most),
+      le-leb (s .room) most (v .most),
       le-leb (c .phase) 4 (v .phase),
-      le-leb (c .code) 99 (v .code),
-      le-leb (c .accepted .count + c .refused .count) (s .room) (v .items),
-      le-leb (c .accepted .sum) (9999999999 * c .accepted .count) (v .accepted),
-      le-leb (c .refused .sum) (9999999999 * c .refused .count) (v .refused),
+      le-leb (c .told) mostTold (v .told),
+      le-leb (c .code) mostCode (v .code),
+      le-leb (items c) (s .room) (v .items),
+      le-leb (c .accepted .sum) (mostAmount * c .accepted .count) (v .accepted),
+      le-leb (c .refused .sum) (mostAmount * c .refused .count) (v .refused),
       le-leb (c .zeros) (c .accepted .count) (v .zeros),
     )
     (held-in (c .phase) (s .fill) (s .held) (v .early) (v .late))
@@ -105,6 +127,7 @@ fit s t e l =
     record {
       ready = record {
         phase = v .phase;
+        told = v .told;
         code = v .code;
         most = omega (arith, v .most);
         items = omega (arith, v .items);
@@ -120,8 +143,8 @@ fit s t e l =
 pub record Kept (n : ℕ) (s : State) : Type 0 where
   pub valid : Valid s
   pub room : length (s .table) ≡ n
-  pub early : s .phase ≤ 1 → length (s .held) < whole (s .phase) (s .held)
-  pub late : 1 < s .phase → s .held ≡ []
+  pub early : s .tally .phase ≤ 1 → length (s .held) < size (s .tally .phase) (s .held)
+  pub late : 1 < s .tally .phase → s .held ≡ []
 
 -- between two records
 kept-between : (n : ℕ) (s : State) → Valid s → length (s .table) ≡ n → s .held ≡ [] → Kept n s
@@ -129,7 +152,7 @@ kept-between n s v l e =
     record {
       valid = v;
       room = l;
-      early = λ p. omega (arith, ap length e, whole-least (s .phase) (s .held));
+      early = λ p. omega (arith, ap length e, size-least (s .tally .phase) (s .held));
       late = λ p. e;
     }
 
@@ -137,63 +160,58 @@ either-long : (n : ℕ) (b : Bool) (x y : State) → length (x .table) ≡ n →
 either-long n true x y p q = p
 either-long n false x y p q = q
 
-module _ (e : ℕ) (banks known : List ℕ) where
-  abbrev R : Rules
-  R = rules e banks known
-
+module _ (R : Rules) (ok : Sound R) where
   -- judging a record keeps the table's length
   judged-long : (s : State) (x : List ℕ) → length (judged R s x .table) ≡ length (s .table)
   unfolding judged headRead itemRead itemCounted footRead
   judged-long s x =
+      let c = s .tally in
       let n : ℕ = length (s .table) in
-      either-long n (eqb (s .phase) 0) _ _
-      (either-long n (ended 174 x) _ _ refl refl)
+      let set-long = length-set (s .table) (items c) (R .item (c .told) (items c + 1) (take (lengths .item) x) .code) in
+      either-long n (eqb (c .phase) 0) _ _
+      (either-long n (ended (lengths .head) x) _ _ refl refl)
       (either-long n (isFoot x) _ _
-      (either-long n (ended 24 x) _ _ (either-long n (eqb (items s) 0) _ _ refl refl) refl)
-      (either-long n (ended 249 x) _ _
-      (either-long n (ltb (items s) (length (s .table))) _ _ (length-set (s .table) (items s) (itemFound banks (items s + 1) (take 249 x) .code)) refl)
-      refl))
-
-  short : (p : ℕ) (g : List ℕ) → leb (size R p g) (length g) ≡ false → length g < whole p g
-  unfolding size
-  short p g q = leb-false (size R p g) (length g) q
+      (either-long n (ended (lengths .foot) x) _ _ refl refl)
+      (either-long n (ended (lengths .item) x) _ _ (either-long n (ltb (items c) n) _ _ set-long refl) refl))
 
   module _ (n : ℕ) (s : State) (k : Kept n s) where
+    abbrev phase : ℕ
+    phase = s .tally .phase
+
     kept-judged : (x : List ℕ) → Kept n (judged R s x)
-    kept-judged x =
-        kept-between n (judged R s x) (valid-judged e banks known s (k .valid) x) (judged-long s x ∙ k .room) (judged-none e banks known s x)
+    kept-judged x = kept-between n (judged R s x) (valid-judged s (k .valid) R ok x) (judged-long s x ∙ k .room) (judged-none R s x)
 
     kept-step : (b : ℕ) → Kept n (step R s b)
     unfolding step pushed
-    kept-step b = go (leb (s .phase) 1) refl (leb (size R (s .phase) g) (length g)) refl (eqb (s .phase) 4)
+    kept-step b = go (leb phase 1) refl (leb (size phase g) (length g)) refl (eqb phase 4)
       where
         g : List ℕ
         g = s .held ++ (b ∷ [])
 
-        go : (x : Bool) → leb (s .phase) 1 ≡ x → (y : Bool) → leb (size R (s .phase) g) (length g) ≡ y → (z : Bool)
-            → Kept n (cond x (cond y (judged R s g) (at (s .phase) g s)) (cond z s (at 3 [] s)))
+        go : (x : Bool) → leb phase 1 ≡ x → (y : Bool) → leb (size phase g) (length g) ≡ y → (z : Bool)
+            → Kept n (cond x (cond y (judged R s g) (at phase g s)) (cond z s (at 3 [] s)))
         go true p true q z = kept-judged g
         go true p false q z =
             record {
-              valid = valid-at e banks known s (k .valid) (s .phase) g (k .valid .phase);
+              valid = valid-at s (k .valid) phase g (k .valid .phase);
               room = k .room;
-              early = λ l. short (s .phase) g q;
-              late = λ l. absurd (omega (arith, leb-true (s .phase) 1 p));
+              early = λ l. leb-false (size phase g) (length g) q;
+              late = λ l. absurd (omega (arith, leb-true phase 1 p));
             }
         go false p y q true = k
-        go false p y q false = kept-between n (at 3 [] s) (valid-at e banks known s (k .valid) 3 [] (omega arith)) (k .room) refl
+        go false p y q false = kept-between n (at 3 [] s) (valid-at s (k .valid) 3 [] (omega arith)) (k .room) refl
 
   pub kept-run : (n : ℕ) (s : State) (x : List ℕ) → Kept n s → Kept n (run R s x)
   unfolding run
   kept-run n s [] k = k
   kept-run n s (b ∷ x) k = kept-run n (step R s b) x (kept-step n s k b)
 
-pub kept-fresh : (t : List ℕ) → length t ≤ 10000 → Kept (length t) (fresh t)
+pub kept-fresh : (t : List ℕ) → length t ≤ most → Kept (length t) (fresh t)
 kept-fresh t l =
     kept-between (length t) (fresh t)
     (record {
-      told = refl;
       phase = omega arith;
+      told = omega arith;
       code = omega arith;
       most = l;
       items = omega arith;
@@ -216,6 +234,7 @@ module _ (e n : ℕ) (s : State) (k : Kept n s) where
         day = d;
         most = omega (arith, v .most, k .room);
         phase = v .phase;
+        told = v .told;
         code = v .code;
         items = omega (arith, v .items, k .room);
         accepted = v .accepted;
@@ -226,21 +245,7 @@ module _ (e n : ℕ) (s : State) (k : Kept n s) where
       })
 
   pub session-state : stateOf (sessionOf e n s) (s .table) ≡ s
-  session-state =
-      λ i. record {
-        phase = s .phase;
-        held = held-is i;
-        told = sym (k .valid .told) i;
-        letter = s .letter;
-        code = s .code;
-        acceptedCount = s .acceptedCount;
-        acceptedSum = s .acceptedSum;
-        refusedCount = s .refusedCount;
-        refusedSum = s .refusedSum;
-        zeros = s .zeros;
-        id = s .id;
-        table = s .table;
-      }
+  session-state = λ i. record { tally = s .tally; held = held-is i; table = s .table }
 
 -- the state of a session in range
 pub kept-session : (s : Session) (t : List ℕ) → inRange s ≡ true → length t ≡ s .room → Kept (s .room) (stateOf s t)
@@ -249,34 +254,50 @@ kept-session s t e l =
     let n = s .fill in
     let h = s .held in
     record {
-      valid = ready-valid (s .tally) (take n h) t (f .ready);
+      valid = f .ready;
       room = l;
       early = λ p. omega (arith, f .early p, length-take n h, min-le-left n (length h));
       late = λ p. ap (λ (m : ℕ). take m h) (f .late p);
     }
 
 -- no call yields a session outside the ranges
-pub opened-in-range : (e : ℕ) (t : List ℕ) → isDate e ≡ true → length t ≤ 10000 → inRange (opened e t .next) ≡ true
-unfolding opened
-opened-in-range e t d l = rw (d, le-leb (length t) 10000 l) (session-in-range e (length t) (fresh t) (kept-fresh t l) d)
+pub open-passes : (e : ℕ) (t : List ℕ) → isDate e ≡ true → length t ≤ most → openRefused e t ≡ Done
+unfolding openRefused
+open-passes e t d l = rw (d, le-leb (length t) most l)
 
-pub taken-in-range : (s : Session) (p banks known t : List ℕ) → inRange s ≡ true → inRange (taken s p banks known t .next) ≡ true
+pub opened-in-range : (e : ℕ) (t : List ℕ) → isDate e ≡ true → length t ≤ most → inRange (opened e t .next) ≡ true
+unfolding opened
+opened-in-range e t d l = rw (open-passes e t d l) (session-in-range e (length t) (fresh t) (kept-fresh t l) d)
+
+-- a piece that isn't refused: the session is in range, and the table its own
+pub record Passes (s : Session) (n : ℕ) : Type 0 where
+  pub in-range : inRange s ≡ true
+  pub room : n ≡ s .room
+
+pub piece-passes : (s : Session) (l : Lists) (n : ℕ) → pieceRefused s l n ≡ Done → Passes s n
+unfolding pieceRefused
+piece-passes s l n = go (inRange s) refl (listRefused l) (eqb n (s .room)) refl
+  where
+    never : {A : Type 0} (r : Refusal) → Refused r ≡ Done → A
+    never r q = let z : _≡_ {A = ℕ} 0 1 = cc in absurd (omega arith)
+
+    go : (a : Bool) → inRange s ≡ a → (o : Outcome) (b : Bool) → eqb n (s .room) ≡ b
+        → cond a (by o (cond b Done (Refused refusal.Table)) Refused) (Refused refusal.Session) ≡ Done → Passes s n
+    go false i o b j q = never refusal.Session q
+    go true i (Refused r) b j q = never r q
+    go true i Done false j q = never refusal.Table q
+    go true i Done true j q = record { in-range = i; room = eqb-true n (s .room) j }
+
+pub taken-in-range : (s : Session) (p : List ℕ) (l : Lists) (t : List ℕ) → inRange s ≡ true → inRange (taken s p l t .next) ≡ true
 unfolding taken
-taken-in-range s p banks known t e = go (inRange s) (isBankList banks) (isKnownList known) (eqb (length t) (s .room)) refl
+taken-in-range s p l t e = go (pieceRefused s l (length t)) refl
   where
     n : Session
-    n = sessionOf (s .day) (s .room) (run (rules (s .day) banks known) (stateOf s t) p)
+    n = sessionOf (s .day) (s .room) (after s p l t)
 
-    next : length t ≡ s .room → inRange n ≡ true
-    next l =
-        let k = kept-run (s .day) banks known (s .room) (stateOf s t) p (kept-session s t e l) in
-        session-in-range (s .day) (s .room) (run (rules (s .day) banks known) (stateOf s t) p) k (ranged s e .day)
-
-    go : (a b c d : Bool) → eqb (length t) (s .room) ≡ d
-        → inRange (cond a (cond b (cond c (cond d (give Done n) (give (Refused refusal.Table) s)) (give (Refused refusal.KnownList) s)) (give (Refused refusal.BankList) s)) (give (Refused refusal.Session) s) .next)
-        ≡ true
-    go false b c d q = e
-    go true false c d q = e
-    go true true false d q = e
-    go true true true false q = e
-    go true true true true q = next (eqb-true (length t) (s .room) q)
+    go : (o : Outcome) → pieceRefused s l (length t) ≡ o → inRange (by o (give Done n) (λ r. give (Refused r) s) .next) ≡ true
+    go (Refused r) q = e
+    go Done q =
+        let k = kept-session s t e (piece-passes s l (length t) q .room) in
+        let k′ = kept-run (rules (lentTo s l)) (sound (lentTo s l)) (s .room) (stateOf s t) p k in
+        session-in-range (s .day) (s .room) (after s p l t) k′ (ranged s e .day)

@@ -1,191 +1,155 @@
--- The numbers of a state stay in their ranges, whatever is read.
+-- The numbers of a state stay in their ranges, whatever is read, for any sound rules.
 -- Assumes nothing.
-use mathlib.Core.Path.{_≡_, refl, sym, ap, _∙_}
-use mathlib.Core.Bool.{Bool, true, false, cond, _&&_}
-use mathlib.Core.List.{List, [], _∷_, _++_}
-use Prim.Native.Nat.{ℕ, zero, suc, _+_, _*_, _≤_, _<_}
+use mathlib.Core.Path.{_≡_, refl, sym}
+use mathlib.Core.Bool.{Bool, true, false, cond, not, _&&_}
+use mathlib.Core.List.{List, []}
+use Prim.Native.Nat.{ℕ, _+_, _*_, _≤_, _<_}
 use native.Mathlib.Omega.{arith}
 use lib.ListN.{length, take, set, length-set}
-use lib.Dec.{leb, ltb, eqb}
-use borrow.Author.Tests.{leb-true, leb-false, ltb-true, ltb-false}
+use lib.Dec.{ltb, eqb}
+use borrow.Author.Tests.{ltb-true}
 use Rattle.frame.specs.declared.Found.{Found}
-use Rattle.frame.specs.Records.{ended, isFoot}
-use Rattle.frame.specs.Verdict.{Rules}
-use Rattle.frame.specs.Machine.{State, at, items, sum, earlier, size, headRead, itemCounted, itemRead, footRead, judged, pushed, step, run}
-use Rattle.atutal.specs.Codes.{rules, itemFound, footCode}
-use Rattle.heads.specs.Heads.{headFound}
-use Rattle.atutal.proofs.Bounds.{small, foot-small}
-use Rattle.heads.proofs.HeadSmall.{head-small}
-use Rattle.judge.specs.declared.Tally.{Tally}
-use Rattle.judge.specs.Session.{stateWith, tallyOf}
-use Rattle.judge.specs.Reading.{Ready, Read}
+use Rattle.frame.specs.declared.Tally.{Tally}
+use Rattle.frame.specs.Records.{lengths, ended, isFoot}
+use Rattle.frame.specs.Verdict.{Rules, isAccepted}
+use Rattle.frame.specs.Sound.{Sound, mostCode, mostAmount}
+use Rattle.frame.specs.Machine.{
+  State,
+  phased,
+  at,
+  items,
+  sum,
+  earlier,
+  itemTally,
+  itemCounted,
+  headTally,
+  headRead,
+  itemRead,
+  footTally,
+  footRead,
+  judged,
+}
+use Rattle.judge.specs.Session.{stateWith}
+use Rattle.judge.specs.Inner.{Ready, Read}
 
-pub record Valid (s : State) : Type 0 where
-  pub told : s .told ≡ 0
-  pub phase : s .phase ≤ 4
-  pub code : s .code ≤ 99
-  pub most : length (s .table) ≤ 10000
-  pub items : s .acceptedCount + s .refusedCount ≤ length (s .table)
-  pub accepted : s .acceptedSum ≤ 9999999999 * s .acceptedCount
-  pub refused : s .refusedSum ≤ 9999999999 * s .refusedCount
-  pub zeros : s .zeros ≤ s .acceptedCount
+abbrev pub Valid : State → Type 0
+Valid s = Ready (s .tally) (s .table)
 
-pub ready-valid : (c : Tally) (h t : List ℕ) → Ready c t → Valid (stateWith c h t)
-ready-valid c h t r =
+pub read-ready : (s : State) (c : Tally) (t : List ℕ) → Valid s → Read s c t → Ready c t
+read-ready s c t v r = rw (r .tally, r .bytes) v
+
+-- the state between two records is its tally and its table
+pub read-state : (s : State) (c : Tally) (t : List ℕ) → Read s c t → s .held ≡ [] → stateWith c [] t ≡ s
+read-state s c t r e = rw (r .tally, r .bytes) (λ i. record { tally = s .tally; held = sym e i; table = s .table })
+
+earlier-le : (c d : ℕ) → c ≤ mostCode → d ≤ mostCode → earlier c d ≤ mostCode
+earlier-le c d h k = go (eqb c 0)
+  where
+    go : (t : Bool) → cond t d c ≤ mostCode
+    go true = k
+    go false = h
+
+ready-phased : (c : Tally) (t : List ℕ) (p : ℕ) → Ready c t → p ≤ 4 → Ready (phased p c) t
+ready-phased c t p v l =
     record {
-      told = refl;
-      phase = r .phase;
-      code = r .code;
-      most = r .most;
-      items = r .items;
-      accepted = r .accepted;
-      refused = r .refused;
-      zeros = r .zeros;
-    }
-
-pub valid-ready : (s : State) (c : Tally) (t : List ℕ) → Valid s → Read s c t → Ready c t
-valid-ready s c t v r =
-    rw (r .tally, r .bytes)
-    (record {
-      phase = v .phase;
+      phase = l;
+      told = v .told;
       code = v .code;
       most = v .most;
       items = v .items;
       accepted = v .accepted;
       refused = v .refused;
       zeros = v .zeros;
-    })
+    }
 
--- the state between two records is its tally and its table
-pub read-state : (s : State) (c : Tally) (t : List ℕ) → Read s c t → s .told ≡ 0 → s .held ≡ [] → stateWith c [] t ≡ s
-read-state s c t r z e = rw (r .tally, r .bytes) (λ i. record {
-  phase = s .phase;
-  held = sym e i;
-  told = sym z i;
-  letter = s .letter;
-  code = s .code;
-  acceptedCount = s .acceptedCount;
-  acceptedSum = s .acceptedSum;
-  refusedCount = s .refusedCount;
-  refusedSum = s .refusedSum;
-  zeros = s .zeros;
-  id = s .id;
-  table = s .table;
-})
+module _ (s : State) (v : Valid s) where
+  abbrev c : Tally
+  c = s .tally
 
-earlier-le : (c d : ℕ) → c ≤ 99 → d ≤ 99 → earlier c d ≤ 99
-earlier-le c d h k = go (eqb c 0)
-  where
-    go : (t : Bool) → cond t d c ≤ 99
-    go true = k
-    go false = h
+  pub valid-at : (p : ℕ) (h : List ℕ) → p ≤ 4 → Valid (at p h s)
+  valid-at p h l = ready-phased c (s .table) p v l
 
-module _ (e : ℕ) (banks known : List ℕ) where
-  abbrev R : Rules
-  R = rules e banks known
+  valid-counted : (f : Found) → f .fault ≤ mostCode → f .amount ≤ mostAmount → items c < length (s .table) → Valid (itemCounted s f)
+  unfolding itemCounted itemTally
+  valid-counted f a b l =
+      let n : length (set (s .table) (items c) (f .code)) ≡ length (s .table) = length-set (s .table) (items c) (f .code) in
+      record {
+        phase = omega arith;
+        told = v .told;
+        code = earlier-le (c .code) (f .fault) (v .code) a;
+        most = omega (arith, v .most);
+        items = one (isAccepted f) n;
+        accepted = paid (c .accepted .sum) (c .accepted .count) (isAccepted f) (v .accepted);
+        refused = paid (c .refused .sum) (c .refused .count) (not (isAccepted f)) (v .refused);
+        zeros = watched (isAccepted f) (f .zero);
+      }
+    where
+      one : (t : Bool) → length (set (s .table) (items c) (f .code)) ≡ length (s .table)
+          → c .accepted .count + cond t 1 0 + (c .refused .count + cond (not t) 1 0) ≤ length (set (s .table) (items c) (f .code))
+      one true n = omega arith
+      one false n = omega arith
 
-  module _ (s : State) (v : Valid s) where
-    pub valid-at : (p : ℕ) (h : List ℕ) → p ≤ 4 → Valid (at p h s)
-    valid-at p h l =
-        record {
-          told = v .told;
-          phase = l;
-          code = v .code;
-          most = v .most;
-          items = v .items;
-          accepted = v .accepted;
-          refused = v .refused;
-          zeros = v .zeros;
-        }
+      paid : (m n : ℕ) (t : Bool) → m ≤ mostAmount * n → m + cond t (f .amount) 0 ≤ mostAmount * (n + cond t 1 0)
+      paid m n true h = omega arith
+      paid m n false h = omega arith
 
+      watched : (t u : Bool) → c .zeros + cond (t && u) 1 0 ≤ c .accepted .count + cond t 1 0
+      watched true true = omega (arith, v .zeros)
+      watched true false = omega (arith, v .zeros)
+      watched false u = omega (arith, v .zeros)
+
+  module _ (R : Rules) (ok : Sound R) where
     valid-head : (r : List ℕ) → Valid (headRead R s r)
-    unfolding headRead
+    unfolding headRead headTally
     valid-head r =
         record {
-          told = refl;
           phase = omega arith;
-          code = omega (arith, head-small e banks known r);
+          told = ok .told r;
+          code = ok .head r;
           most = v .most;
           items = v .items;
           accepted = v .accepted;
           refused = v .refused;
           zeros = v .zeros;
         }
-
-    valid-counted : (f : Found) → f .fault ≤ 99 → f .amount ≤ 9999999999 → items s < length (s .table) → Valid (itemCounted R s f)
-    unfolding itemCounted
-    valid-counted f a b l =
-        let n : length (set (s .table) (items s) (f .code)) ≡ length (s .table) = length-set (s .table) (items s) (f .code) in
-        record {
-          told = v .told;
-          phase = omega arith;
-          code = earlier-le (s .code) (f .fault) (v .code) a;
-          most = omega (arith, v .most);
-          items = one (eqb (f .code) 0) n;
-          accepted = paid (eqb (f .code) 0);
-          refused = unpaid (eqb (f .code) 0);
-          zeros = watched (eqb (f .code) 0) (f .zero);
-        }
-      where
-        one : (t : Bool) → length (set (s .table) (items s) (f .code)) ≡ length (s .table)
-            → s .acceptedCount + cond t 1 0 + (s .refusedCount + cond t 0 1) ≤ length (set (s .table) (items s) (f .code))
-        one true n = omega arith
-        one false n = omega arith
-
-        paid : (t : Bool) → s .acceptedSum + cond t (f .amount) 0 ≤ 9999999999 * (s .acceptedCount + cond t 1 0)
-        paid true = omega (arith, v .accepted)
-        paid false = omega (arith, v .accepted)
-
-        unpaid : (t : Bool) → s .refusedSum + cond t 0 (f .amount) ≤ 9999999999 * (s .refusedCount + cond t 0 1)
-        unpaid true = omega (arith, v .refused)
-        unpaid false = omega (arith, v .refused)
-
-        watched : (t u : Bool) → s .zeros + cond (t && u) 1 0 ≤ s .acceptedCount + cond t 1 0
-        watched true true = omega (arith, v .zeros)
-        watched true false = omega (arith, v .zeros)
-        watched false u = omega (arith, v .zeros)
 
     valid-item : (r : List ℕ) → Valid (itemRead R s r)
     unfolding itemRead
-    valid-item r = go (ltb (items s) (length (s .table))) refl
+    valid-item r = go (ltb (items c) (length (s .table))) refl
       where
         f : Found
-        f = itemFound banks (items s + 1) r
+        f = R .item (c .told) (items c + 1) r
 
-        go : (t : Bool) → ltb (items s) (length (s .table)) ≡ t → Valid (cond t (itemCounted R s f) (at 4 [] s))
+        go : (t : Bool) → ltb (items c) (length (s .table)) ≡ t → Valid (cond t (itemCounted s f) (at 4 [] s))
         go true q =
-            let m = small banks (items s + 1) r in
-            valid-counted f (omega (arith, m .fault)) (omega (arith, m .amount)) (ltb-true (items s) (length (s .table)) q)
+            valid-counted f (ok .fault (c .told) (items c + 1) r) (ok .amount (c .told) (items c + 1) r)
+            (ltb-true (items c) (length (s .table)) q)
         go false q = valid-at 4 [] (omega arith)
 
     valid-foot : (r : List ℕ) → Valid (footRead R s r)
-    unfolding footRead
-    valid-foot r = go (eqb (items s) 0)
+    unfolding footRead footTally
+    valid-foot r = go (eqb (items c) 0)
       where
-        read : State
+        read : Tally
         read =
             record {
               phase = 2;
-              held = [];
-              told = s .told;
-              letter = s .letter;
-              code = earlier (s .code) (footCode (items s) (sum s) r);
-              acceptedCount = s .acceptedCount;
-              acceptedSum = s .acceptedSum;
-              refusedCount = s .refusedCount;
-              refusedSum = s .refusedSum;
-              zeros = s .zeros;
-              id = s .id;
-              table = s .table;
+              told = c .told;
+              letter = c .letter;
+              code = earlier (c .code) (R .footCode (items c) (sum c) r);
+              accepted = c .accepted;
+              refused = c .refused;
+              zeros = c .zeros;
+              id = c .id;
             }
 
-        go : (t : Bool) → Valid (cond t (at 3 [] s) read)
-        go true = valid-at 3 [] (omega arith)
+        go : (t : Bool) → Ready (cond t (phased 3 c) read) (s .table)
+        go true = ready-phased c (s .table) 3 v (omega arith)
         go false =
             record {
-              told = v .told;
               phase = omega arith;
-              code = earlier-le (s .code) (footCode (items s) (sum s) r) (v .code) (omega (arith, foot-small (items s) (sum s) r));
+              told = v .told;
+              code = earlier-le (c .code) (R .footCode (items c) (sum c) r) (v .code) (ok .foot (items c) (sum c) r);
               most = v .most;
               items = v .items;
               accepted = v .accepted;
@@ -193,42 +157,31 @@ module _ (e : ℕ) (banks known : List ℕ) where
               zeros = v .zeros;
             }
 
+    either : (b : Bool) (x y : State) → Valid x → Valid y → Valid (cond b x y)
+    either true x y p q = p
+    either false x y p q = q
+
     pub valid-judged : (x : List ℕ) → Valid (judged R s x)
     unfolding judged
-    valid-judged x = go (eqb (s .phase) 0) (ended 174 x) (isFoot x) (ended 24 x) (ended 249 x)
-      where
-        go : (p h f e i : Bool) → Valid (cond p (cond h (headRead R s (take 174 x)) (at 3 [] s)) (cond f (cond e (footRead R s (take 24 x)) (at 3 [] s)) (cond i (itemRead R s (take 249 x)) (at 3 [] s))))
-        go true true f e i = valid-head (take 174 x)
-        go true false f e i = valid-at 3 [] (omega arith)
-        go false h true true i = valid-foot (take 24 x)
-        go false h true false i = valid-at 3 [] (omega arith)
-        go false h false e true = valid-item (take 249 x)
-        go false h false e false = valid-at 3 [] (omega arith)
+    valid-judged x =
+        let broken = valid-at 3 [] (omega arith) in
+        either (eqb (c .phase) 0) _ _
+        (either (ended (lengths .head) x) _ _ (valid-head (take (lengths .head) x)) broken)
+        (either (isFoot x) _ _
+        (either (ended (lengths .foot) x) _ _ (valid-foot (take (lengths .foot) x)) broken)
+        (either (ended (lengths .item) x) _ _ (valid-item (take (lengths .item) x)) broken))
 
-  head-none : (s : State) (r : List ℕ) → headRead R s r .held ≡ []
-  unfolding headRead
-  head-none s r = refl
-
-  counted-none : (s : State) (f : Found) → itemCounted R s f .held ≡ []
-  unfolding itemCounted
-  counted-none s f = refl
-
+module _ (R : Rules) (s : State) where
   either-none : (b : Bool) (x y : State) → x .held ≡ [] → y .held ≡ [] → cond b x y .held ≡ []
   either-none true x y p q = p
   either-none false x y p q = q
 
-  item-none : (s : State) (r : List ℕ) → itemRead R s r .held ≡ []
-  unfolding itemRead
-  item-none s r = either-none (ltb (items s) (length (s .table))) _ _ (counted-none s _) refl
-
-  foot-none : (s : State) (r : List ℕ) → footRead R s r .held ≡ []
-  unfolding footRead
-  foot-none s r = either-none (eqb (items s) 0) _ _ refl refl
-
   -- what is judged holds nothing
-  pub judged-none : (s : State) (x : List ℕ) → judged R s x .held ≡ []
-  unfolding judged
-  judged-none s x =
-      either-none (eqb (s .phase) 0) _ _
-      (either-none (ended 174 x) _ _ (head-none s (take 174 x)) refl)
-      (either-none (isFoot x) _ _ (either-none (ended 24 x) _ _ (foot-none s (take 24 x)) refl) (either-none (ended 249 x) _ _ (item-none s (take 249 x)) refl))
+  pub judged-none : (x : List ℕ) → judged R s x .held ≡ []
+  unfolding judged headRead itemRead itemCounted footRead
+  judged-none x =
+      either-none (eqb (s .tally .phase) 0) _ _
+      (either-none (ended (lengths .head) x) _ _ refl refl)
+      (either-none (isFoot x) _ _
+      (either-none (ended (lengths .foot) x) _ _ refl refl)
+      (either-none (ended (lengths .item) x) _ _ (either-none (ltb (items (s .tally)) (length (s .table))) _ _ refl refl) refl))

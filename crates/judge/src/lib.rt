@@ -5,29 +5,32 @@ ghost use mathlib.Core.Bool.{cond};
 ghost use mathlib.Core.List.{[]};
 ghost use Prim.Native.Nat.{_+_, _≤_, _<_};
 ghost use lib.ListN.{length, take, drop};
-ghost use Rattle.frame.specs.Machine.{at, earlier, headRead, itemCounted, itemRead, footRead, judged, run, closing};
+ghost use Rattle.lent.specs.Lent.{listed, lent};
 ghost use Rattle.frame.specs.Verdict.{blank};
+ghost use Rattle.frame.specs.Machine.{unread, phased, more, itemTally, size, headTally, judged, run, closing};
 ghost use Rattle.atutal.specs.Codes.{rules};
-ghost use Rattle.judge.specs.Session.{whole, pad, stateWith, tallyOf, tallyInRange, heldInRange, inRange, closedSession, opened, Took, partsOf, Stepped, closingOf, closedOf};
-ghost use Rattle.judge.specs.Reading.{addedTo, Ready, Countable, Read, Fit, Partial, Became, EndedAs, WalkedOf, refusalOf};
-use findings::refusal::Refusal;
-
-// How many items, and the sum of their amounts.
-pub struct Totals {
-    pub count: u64,
-    pub sum: u64,
-}
-
-// What was counted and found so far. Phase 0: in the head; 1: after it; 2: the foot is read; 3: broken; 4: overflow; 5: closed.
-pub struct Tally {
-    pub phase: u8,
-    pub letter: bool,
-    pub code: u8,
-    pub accepted: Totals,
-    pub refused: Totals,
-    pub zeros: u64,
-    pub id: [u8; 25],
-}
+ghost use Rattle.judge.specs.Session.{
+  most,
+  longest,
+  pad,
+  stateWith,
+  tallyInRange,
+  heldInRange,
+  inRange,
+  closedSession,
+  opened,
+  Took,
+  partsOf,
+  partsRefused,
+  Stepped,
+  closedOf,
+};
+ghost use Rattle.judge.specs.Inner.{Ready, Countable, Summed, ItemRead, FootRead, Read, Fit, Partial, Became, EndedAs, WalkedOf};
+use frame::Closing;
+use frame::Tally;
+use frame::Totals;
+use lent::Outcome;
+use lent::Refusal;
 
 // A session: the clearing day, the table's length, what was counted, and the bytes of the record begun with zeros after them.
 pub struct Session {
@@ -35,12 +38,7 @@ pub struct Session {
     pub room: usize,
     pub tally: Tally,
     pub fill: usize,
-    pub held: [u8; 251],
-}
-
-pub enum Outcome {
-    Done,
-    Refused(Refusal),
+    pub held: [u8; frame::ITEM_ENDED],
 }
 
 // What a call that takes or opens a session gives back.
@@ -56,15 +54,7 @@ pub struct Step {
     pub outcome: Outcome,
 }
 
-// What closing gives: the message code, accepted count and sum, refused count and sum, the zero watch, the identifier.
-pub struct Closing {
-    pub code: u8,
-    pub accepted: Totals,
-    pub refused: Totals,
-    pub zeros: u64,
-    pub id: [u8; 25],
-}
-
+// What closing a session gives.
 pub struct Closed {
     pub outcome: Outcome,
     pub closing: Closing,
@@ -77,38 +67,34 @@ pub struct Judged {
     pub closing: Closing,
 }
 
+// The most that an amount of ten digits can be.
+const AMOUNT: u64 = 9999999999;
+
 // The length, with its ending, of the record that begins with x, or of the head.
 fn size_of(phase: u8, x: &[u8]) -> usize
-    ensures { λ n. ⌜ n ≡ whole phase (now (x .entry)) ⌝ }
+    ensures { λ n. ⌜ n ≡ size phase (now (x .entry)) ⌝ }
 {
     if phase == 0 {
-        return 176;
+        return frame::HEAD_ENDED;
     }
     if frame::is_foot(x) {
-        return 26;
+        return frame::FOOT_ENDED;
     }
-    251
+    frame::ITEM_ENDED
 }
 
-// A fault keeps its place before a later one.
-fn earlier(c: u8, d: u8) -> u8
-    ensures { λ r. ⌜ r ≡ earlier c d ⌝ }
-{
-    if c == 0 {
-        return d;
-    }
-    c
-}
-
-// One item more.
-fn added(t: Totals, amount: u64) -> Totals
+// One item more, if so.
+fn more(yes: bool, amount: u64, t: Totals) -> Totals
     requires { ⌜ (t .count < 1000000) × (t .sum + amount < 18446744073709551616) ⌝ }
-    ensures { λ r. ⌜ r ≡ addedTo t amount ⌝ }
+    ensures { λ r. ⌜ r ≡ more yes amount t ⌝ }
 {
-    Totals {
-        count: t.count + 1,
-        sum: t.sum + amount,
+    if yes {
+        return Totals {
+            count: t.count + 1,
+            sum: t.sum + amount,
+        };
     }
+    t
 }
 
 // One more, if so.
@@ -122,152 +108,171 @@ fn one_more(n: u64, yes: bool) -> u64
     n
 }
 
-impl Tally {
-    // Each number is in its range, for a table of so many bytes, 10,000 at most.
-    fn in_range(self, room: usize) -> bool
-        requires { ⌜ room ≤ 10000 ⌝ }
-        ensures { λ r. ⌜ r ≡ tallyInRange room self ⌝ }
-    {
-        let a = self.accepted;
-        let r = self.refused;
-        if self.phase > 4 {
-            return false;
-        }
-        if self.code > 99 {
-            return false;
-        }
-        if a.count > 10000 {
-            return false;
-        }
-        if r.count > 10000 {
-            return false;
-        }
-        if a.count + r.count > room as u64 {
-            return false;
-        }
-        if a.sum > 9999999999 * a.count {
-            return false;
-        }
-        if r.sum > 9999999999 * r.count {
-            return false;
-        }
-        self.zeros <= a.count
+// Nothing is read yet; the phase says whether a session is open.
+fn unread(phase: u8) -> Tally
+    ensures { λ r. ⌜ r ≡ phased phase unread ⌝ }
+{
+    let none = Totals { count: 0, sum: 0 };
+    Tally {
+        phase: phase,
+        told: 0,
+        letter: false,
+        code: 0,
+        accepted: none,
+        refused: none,
+        zeros: 0,
+        id: [b' '; 25],
     }
+}
 
-    // At a phase, with what was counted.
-    fn at(self, phase: u8) -> Tally
-        ensures { λ r. ⌜ r ≡ tallyOf (at phase [] (stateWith self [] [])) ⌝ }
-    {
-        let mut t = self;
-        t.phase = phase;
-        t
-    }
+// At a phase, with what was counted.
+fn phased(phase: u8, tally: Tally) -> Tally
+    ensures { λ r. ⌜ r ≡ phased phase tally ⌝ }
+{
+    let mut t = tally;
+    t.phase = phase;
+    t
+}
 
-    // The head is read: 174 bytes without the ending.
-    fn head(self, r: &[u8], day: u32, banks: &[u32], known: &[u8]) -> Tally
-        ensures { λ n. ⌜ n ≡ tallyOf (headRead (rules day (now (banks .entry)) (now (known .entry))) (stateWith self [] []) (now (r .entry))) ⌝ }
-    {
-        let f = heads::judge(r, day, banks, known);
-        let a = self.accepted;
-        let b = self.refused;
-        Tally {
-            phase: 1,
-            letter: f.letter,
-            code: f.code,
-            accepted: a,
-            refused: b,
-            zeros: self.zeros,
-            id: frame::identifier(r),
-        }
+// Each number of a tally is in its range, for a table of so many bytes.
+fn tally_in_range(room: usize, t: Tally) -> bool
+    requires { ⌜ room ≤ most ⌝ }
+    ensures { λ r. ⌜ r ≡ tallyInRange room t ⌝ }
+{
+    let a = t.accepted;
+    let r = t.refused;
+    if t.phase > 4 {
+        return false;
     }
+    if t.told > frame::MOST_TOLD {
+        return false;
+    }
+    if t.code > 99 {
+        return false;
+    }
+    if a.count > Session::MOST as u64 {
+        return false;
+    }
+    if r.count > Session::MOST as u64 {
+        return false;
+    }
+    if a.count + r.count > room as u64 {
+        return false;
+    }
+    if a.sum > AMOUNT * a.count {
+        return false;
+    }
+    if r.sum > AMOUNT * r.count {
+        return false;
+    }
+    t.zeros <= a.count
+}
 
-    // What is found in an item is counted.
-    fn counted(self, f: frame::Found) -> Tally
-        requires { ⌜ Countable self f ⌝ }
-        ensures { λ n. ⌜ n ≡ tallyOf (itemCounted (rules 0 [] []) (stateWith self [] []) f) ⌝ }
-    {
-        let a = self.accepted;
-        let b = self.refused;
-        let id = self.id;
-        if f.code == 0 {
-            return Tally {
-                phase: 1,
-                letter: self.letter | f.letter,
-                code: earlier(self.code, f.fault),
-                accepted: added(a, f.amount),
-                refused: b,
-                zeros: one_more(self.zeros, f.zero),
-                id: id,
-            };
-        }
-        Tally {
-            phase: 1,
-            letter: self.letter | f.letter,
-            code: earlier(self.code, f.fault),
-            accepted: a,
-            refused: added(b, f.amount),
-            zeros: self.zeros,
-            id: id,
-        }
+// The head is read, without the ending: the rules of its message say what is found in it and what it tells.
+fn head_read(tally: Tally, r: &[u8], day: u32, banks: &[u32], known: &[u8]) -> Tally
+    ensures { λ n. ⌜ n ≡ headTally (rules (lent day (now (banks .entry)) (now (known .entry)))) tally (now (r .entry)) ⌝ }
+{
+    let f = heads::found_in(r, day, banks, known);
+    let a = tally.accepted;
+    let b = tally.refused;
+    Tally {
+        phase: 1,
+        told: 0,
+        letter: f.letter,
+        code: f.code,
+        accepted: a,
+        refused: b,
+        zeros: tally.zeros,
+        id: frame::identifier(r),
     }
+}
 
-    // An item is read: 249 bytes without the ending. Its code goes to its own byte; where there is none, judging stops.
-    fn item(self, r: &[u8], banks: &[u32], table: &mut [u8]) -> Tally
-        requires { ⌜ Ready self (now table) ⌝ }
-        ensures { λ n. ⌜ Read (itemRead (rules 0 (now (banks .entry)) []) (stateWith self [] (now (table .entry))) (now (r .entry))) n (now (table .exit)) ⌝ }
-    {
-        let a = self.accepted;
-        let b = self.refused;
-        let k = a.count + b.count;
-        let at = k as usize;
-        if at < table.len() {
-            let f = atutal::item::judge(r, k + 1, banks);
-            table[at] = f.code;
-            return self.counted(f);
-        }
-        self.at(4)
+// What is found in an item is counted.
+fn counted(tally: Tally, f: frame::Found) -> Tally
+    requires { ⌜ Countable tally f ⌝ }
+    ensures { λ n. ⌜ n ≡ itemTally tally f ⌝ }
+{
+    let a = tally.accepted;
+    let b = tally.refused;
+    let id = tally.id;
+    let accepted = f.code == 0;
+    Tally {
+        phase: 1,
+        told: tally.told,
+        letter: tally.letter | f.letter,
+        code: findings::earlier(tally.code, f.fault),
+        accepted: more(accepted, f.amount, a),
+        refused: more(!accepted, f.amount, b),
+        zeros: one_more(tally.zeros, accepted & f.zero),
+        id: id,
     }
+}
 
-    // The foot is read: 24 bytes without the ending. With no item before it, that is a break.
-    fn foot(self, r: &[u8]) -> Tally
-        requires { ⌜ (self .accepted .count + self .refused .count ≤ 10000) × (self .accepted .sum + self .refused .sum < 18446744073709551616) ⌝ }
-        ensures { λ n. ⌜ n ≡ tallyOf (footRead (rules 0 [] []) (stateWith self [] []) (now (r .entry))) ⌝ }
-    {
-        let a = self.accepted;
-        let b = self.refused;
-        let items = a.count + b.count;
-        if items == 0 {
-            return self.at(3);
-        }
-        let mut t = self;
-        t.phase = 2;
-        t.code = earlier(self.code, atutal::foot::judge(r, items, a.sum + b.sum));
-        t
+// An item is read, without the ending, by its rules, which may use the day and what the head told. Its code goes to its own byte;
+// where there is none, judging stops.
+fn item_read(tally: Tally, r: &[u8], day: u32, banks: &[u32], table: &mut [u8]) -> Tally
+    requires { ⌜ Ready tally (now table) ⌝ }
+    ensures { λ n. ⌜ ItemRead day (now (banks .entry)) tally (now (table .entry)) (now (r .entry)) n (now (table .exit)) ⌝ }
+{
+    let a = tally.accepted;
+    let b = tally.refused;
+    let k = a.count + b.count;
+    let at = k as usize;
+    if at < table.len() {
+        let f = atutal::item::found_in(r, k + 1, banks);
+        table[at] = f.code;
+        return counted(tally, f);
     }
+    phased(4, tally)
+}
 
-    // A record of its whole length, with its ending, is judged.
-    fn record(self, x: &[u8], day: u32, banks: &[u32], known: &[u8], table: &mut [u8]) -> Tally
-        requires { ⌜ Ready self (now table) ⌝ }
-        requires { ⌜ length (now x) ≡ whole (self .phase) (now x) ⌝ }
-        ensures { λ n. ⌜ Read (judged (rules day (now (banks .entry)) (now (known .entry))) (stateWith self [] (now (table .entry))) (now (x .entry))) n (now (table .exit)) ⌝ }
-    {
-        if self.phase == 0 {
-            if frame::has_ending(x, 174) {
-                return self.head(&x[0..174], day, banks, known);
-            }
-            return self.at(3);
-        }
-        if frame::is_foot(x) {
-            if frame::has_ending(x, 24) {
-                return self.foot(&x[0..24]);
-            }
-            return self.at(3);
-        }
-        if frame::has_ending(x, 249) {
-            return self.item(&x[0..249], banks, table);
-        }
-        self.at(3)
+// The foot is read, without the ending. With no item before it, that is a break.
+fn foot_read(tally: Tally, r: &[u8]) -> Tally
+    requires { ⌜ Summed tally ⌝ }
+    ensures { λ n. ⌜ FootRead tally (now (r .entry)) n ⌝ }
+{
+    let a = tally.accepted;
+    let b = tally.refused;
+    let items = a.count + b.count;
+    if items == 0 {
+        return phased(3, tally);
     }
+    let mut t = tally;
+    t.phase = 2;
+    t.code = findings::earlier(tally.code, atutal::foot::code_in(r, items, a.sum + b.sum));
+    t
+}
+
+// A record of its whole length, with its ending, is judged.
+fn record_read(
+    tally: Tally,
+    x: &[u8],
+    day: u32,
+    banks: &[u32],
+    known: &[u8],
+    table: &mut [u8],
+) -> Tally
+    requires { ⌜ Ready tally (now table) ⌝ }
+    requires { ⌜ length (now x) ≡ size (tally .phase) (now x) ⌝ }
+    ensures { λ n. ⌜ Read (judged (rules (lent day (now (banks .entry)) (now (known .entry)))) (stateWith tally [] (now (table .entry))) (now (x .entry)))
+        n (now (table .exit)) ⌝ }
+{
+    if tally.phase == 0 {
+        if frame::has_ending(x, Session::HEAD) {
+            return head_read(tally, &x[0..Session::HEAD], day, banks, known);
+        }
+        return phased(3, tally);
+    }
+    if frame::is_foot(x) {
+        if frame::has_ending(x, Session::FOOT) {
+            return foot_read(tally, &x[0..Session::FOOT]);
+        }
+        return phased(3, tally);
+    }
+    if frame::has_ending(x, Session::ITEM) {
+        return item_read(tally, &x[0..Session::ITEM], day, banks, table);
+    }
+    phased(3, tally)
 }
 
 // A tally, and how far into the piece whole records went.
@@ -288,7 +293,8 @@ fn walk(
 ) -> Walked
     requires { ⌜ Ready tally (now table) ⌝ }
     requires { ⌜ from ≤ length (now piece) ⌝ }
-    ensures { λ w. ⌜ WalkedOf (rules day (now (banks .entry)) (now (known .entry))) tally (drop from (now (piece .entry))) from (now (table .entry)) w (now (table .exit)) ⌝ }
+    ensures { λ w. ⌜ WalkedOf (rules (lent day (now (banks .entry)) (now (known .entry)))) tally (drop from (now (piece .entry)))
+        from (now (table .entry)) w (now (table .exit)) ⌝ }
 {
     let mut t = tally;
     let mut i = from;
@@ -297,7 +303,7 @@ fn walk(
         if piece.len() - i < n {
             return Walked { tally: t, at: i };
         }
-        t = t.record(&piece[i..i + n], day, banks, known, table);
+        t = record_read(t, &piece[i..i + n], day, banks, known, table);
         i += n;
     }
     Walked { tally: t, at: i }
@@ -311,7 +317,7 @@ struct Left {
 
 // Zeros from a place on.
 fn cleared(held: &mut [u8], from: usize)
-    requires { ⌜ (length (now held) ≡ 251) × (from ≤ 251) ⌝ }
+    requires { ⌜ (length (now held) ≡ longest) × (from ≤ longest) ⌝ }
     ensures { λ _. ⌜ now (held .exit) ≡ pad (take from (now (held .entry))) ⌝ }
 {
     let mut at = from;
@@ -323,7 +329,7 @@ fn cleared(held: &mut [u8], from: usize)
 
 // What is left of a piece after its whole records is held; after the foot it is a break.
 fn ended(tally: Tally, held: &mut [u8], x: &[u8]) -> Left
-    requires { ⌜ length (now held) ≡ 251 ⌝ }
+    requires { ⌜ length (now held) ≡ longest ⌝ }
     requires { ⌜ Partial tally (now x) ⌝ }
     ensures { λ l. ⌜ EndedAs tally (now (x .entry)) l (now (held .exit)) ⌝ }
 {
@@ -339,7 +345,7 @@ fn ended(tally: Tally, held: &mut [u8], x: &[u8]) -> Left
     if tally.phase == 2 {
         if x.len() > 0 {
             return Left {
-                tally: tally.at(3),
+                tally: phased(3, tally),
                 fill: 0,
             };
         }
@@ -362,8 +368,9 @@ fn onward(
     table: &mut [u8],
 ) -> Left
     requires { ⌜ Ready tally (now table) ⌝ }
-    requires { ⌜ (length (now held) ≡ 251) × (from ≤ length (now piece)) ⌝ }
-    ensures { λ l. ⌜ Became (run (rules day (now (banks .entry)) (now (known .entry))) (stateWith tally [] (now (table .entry))) (drop from (now (piece .entry)))) l (now (held .exit)) (now (table .exit)) ⌝ }
+    requires { ⌜ (length (now held) ≡ longest) × (from ≤ length (now piece)) ⌝ }
+    ensures { λ l. ⌜ Became (run (rules (lent day (now (banks .entry)) (now (known .entry)))) (stateWith tally [] (now (table .entry)))
+        (drop from (now (piece .entry)))) l (now (held .exit)) (now (table .exit)) ⌝ }
 {
     let w = walk(tally, piece, from, day, banks, known, table);
     let t = w.tally;
@@ -383,8 +390,9 @@ fn fed(
     table: &mut [u8],
 ) -> Left
     requires { ⌜ Fit tally fill (now held) (now table) ⌝ }
-    requires { ⌜ length (now held) ≡ 251 ⌝ }
-    ensures { λ l. ⌜ Became (run (rules day (now (banks .entry)) (now (known .entry))) (stateWith tally (take fill (now (held .entry))) (now (table .entry))) (now (piece .entry))) l (now (held .exit)) (now (table .exit)) ⌝ }
+    requires { ⌜ length (now held) ≡ longest ⌝ }
+    ensures { λ l. ⌜ Became (run (rules (lent day (now (banks .entry)) (now (known .entry))))
+        (stateWith tally (take fill (now (held .entry))) (now (table .entry))) (now (piece .entry))) l (now (held .exit)) (now (table .exit)) ⌝ }
 {
     if fill == 0 {
         return onward(tally, held, piece, 0, day, banks, known, table);
@@ -401,26 +409,27 @@ fn fed(
     let n = size_of(tally.phase, held) - fill;
     if piece.len() < n {
         text::put(&mut held[fill..], piece);
-        cleared(held, fill + piece.len());
+        let end = fill + piece.len();
+        cleared(held, end);
         return Left {
             tally: tally,
-            fill: fill + piece.len(),
+            fill: end,
         };
     }
     text::put(&mut held[fill..], &piece[..n]);
-    let t = tally.record(&held[..fill + n], day, banks, known, table);
+    let t = record_read(tally, &held[..fill + n], day, banks, known, table);
     onward(t, held, piece, n, day, banks, known, table)
 }
 
 // The record begun isn't whole, and none is begun after the foot, a break or an overflow.
 fn holds(phase: u8, fill: usize, held: &[u8]) -> bool
-    requires { ⌜ length (now held) ≡ 251 ⌝ }
+    requires { ⌜ length (now held) ≡ longest ⌝ }
     ensures { λ r. ⌜ r ≡ heldInRange phase fill (now (held .entry)) ⌝ }
 {
     if phase > 1 {
         return fill == 0;
     }
-    if fill > 250 {
+    if fill >= frame::ITEM_ENDED {
         return false;
     }
     fill < size_of(phase, &held[..fill])
@@ -428,7 +437,7 @@ fn holds(phase: u8, fill: usize, held: &[u8]) -> bool
 
 // The session is open, with every number in its range.
 fn in_range(day: u32, room: usize, tally: Tally, fill: usize, held: &[u8]) -> bool
-    requires { ⌜ length (now held) ≡ 251 ⌝ }
+    requires { ⌜ length (now held) ≡ longest ⌝ }
     ensures { λ r. ⌜ r ≡ inRange (partsOf day room tally fill (now (held .entry))) ⌝ }
 {
     if !calendar::is_date(day) {
@@ -437,7 +446,7 @@ fn in_range(day: u32, room: usize, tally: Tally, fill: usize, held: &[u8]) -> bo
     if room > Session::MOST {
         return false;
     }
-    if !tally.in_range(room) {
+    if !tally_in_range(room, tally) {
         return false;
     }
     holds(tally.phase, fill, held)
@@ -454,27 +463,27 @@ fn refusal_of(
     known: &[u8],
     len: usize,
 ) -> Outcome
-    ensures { λ r. ⌜ r ≡ refusalOf (partsOf day room tally fill (now (held .entry))) (now (banks .entry)) (now (known .entry)) len ⌝ }
+    ensures { λ r. ⌜ r ≡ partsRefused (partsOf day room tally fill (now (held .entry))) (listed (now (banks .entry)) (now (known .entry))) len ⌝ }
 {
-    if held.len() != 251 {
+    if held.len() != frame::ITEM_ENDED {
         return Outcome::Refused(Refusal::Session);
     }
     if !in_range(day, room, tally, fill, held) {
         return Outcome::Refused(Refusal::Session);
     }
-    if !lists::is_bank_list(banks) {
-        return Outcome::Refused(Refusal::BankList);
+    match lent::list_refused(banks, known) {
+        Outcome::Refused(r) => Outcome::Refused(r),
+        Outcome::Done => {
+            if len != room {
+                return Outcome::Refused(Refusal::Table);
+            }
+            Outcome::Done
+        }
     }
-    if !lists::is_known_list(known) {
-        return Outcome::Refused(Refusal::KnownList);
-    }
-    if len != room {
-        return Outcome::Refused(Refusal::Table);
-    }
-    Outcome::Done
 }
 
-// A piece is taken where the session is in parts, with 251 bytes lent for those held: refusals 5, 2, 3, 4. After a refusal all that is lent is as it was.
+// A piece is taken where the session is in parts, with as many bytes lent for those held as the longest record has: refusals 5, 2, 3, 4.
+// After a refusal all that is lent is as it was.
 pub fn take_lent(
     day: u32,
     room: usize,
@@ -486,7 +495,8 @@ pub fn take_lent(
     known: &[u8],
     table: &mut [u8],
 ) -> Step
-    ensures { λ r. ⌜ Stepped day room tally fill (now (held .entry)) (now (piece .entry)) (now (banks .entry)) (now (known .entry)) (now (table .entry)) r (now (held .exit)) (now (table .exit)) ⌝ }
+    ensures { λ r. ⌜ Stepped day room tally fill (now (held .entry)) (now (piece .entry)) (listed (now (banks .entry)) (now (known .entry)))
+        (now (table .entry)) r (now (held .exit)) (now (table .exit)) ⌝ }
 {
     match refusal_of(day, room, tally, fill, held, banks, known, table.len()) {
         Outcome::Refused(r) => Step {
@@ -507,11 +517,12 @@ pub fn take_lent(
 }
 
 impl Session {
-    pub const HEAD: usize = 174;
+    // The lengths of head, item and foot, without their ending.
+    pub const HEAD: usize = frame::HEAD;
 
-    pub const ITEM: usize = 249;
+    pub const ITEM: usize = frame::ITEM;
 
-    pub const FOOT: usize = 24;
+    pub const FOOT: usize = frame::FOOT;
 
     // The most bytes that a code table may have.
     pub const MOST: usize = 10000;
@@ -520,22 +531,12 @@ impl Session {
     fn closed() -> Session
         ensures { λ r. ⌜ r ≡ closedSession ⌝ }
     {
-        let none = Totals { count: 0, sum: 0 };
-        let tally = Tally {
-            phase: 5,
-            letter: false,
-            code: 0,
-            accepted: none,
-            refused: none,
-            zeros: 0,
-            id: [b' '; 25],
-        };
         Session {
             day: 0,
             room: 0,
-            tally: tally,
+            tally: unread(5),
             fill: 0,
-            held: [0u8; 251],
+            held: [0u8; frame::ITEM_ENDED],
         }
     }
 
@@ -555,22 +556,12 @@ impl Session {
                 next: Session::closed(),
             };
         }
-        let none = Totals { count: 0, sum: 0 };
-        let tally = Tally {
-            phase: 0,
-            letter: false,
-            code: 0,
-            accepted: none,
-            refused: none,
-            zeros: 0,
-            id: [b' '; 25],
-        };
         let s = Session {
             day: day,
             room: table.len(),
-            tally: tally,
+            tally: unread(0),
             fill: 0,
-            held: [0u8; 251],
+            held: [0u8; frame::ITEM_ENDED],
         };
         Taken {
             outcome: Outcome::Done,
@@ -589,7 +580,7 @@ impl Session {
 
     // A piece is taken: refusals 5, 2, 3, 4.
     pub fn take(self, piece: &[u8], banks: &[u32], known: &[u8], table: &mut [u8]) -> Taken
-        ensures { λ r. ⌜ Took self (now (piece .entry)) (now (banks .entry)) (now (known .entry)) (now (table .entry)) r (now (table .exit)) ⌝ }
+        ensures { λ r. ⌜ Took self (now (piece .entry)) (listed (now (banks .entry)) (now (known .entry))) (now (table .entry)) r (now (table .exit)) ⌝ }
     {
         let t = self.tally;
         let mut h = self.held;
@@ -625,68 +616,63 @@ impl Session {
         if !self.in_range() {
             return Closed {
                 outcome: Outcome::Refused(Refusal::Session),
-                closing: Closing::none(0, [b' '; 25]),
+                closing: blank(0, [b' '; 25]),
                 next: self,
             };
         }
         let t = self.tally;
-        let id = t.id;
         if t.phase == 4 {
             return Closed {
                 outcome: Outcome::Refused(Refusal::Overflow),
-                closing: Closing::none(0, [b' '; 25]),
+                closing: blank(0, [b' '; 25]),
                 next: Session::closed(),
             };
         }
         Closed {
             outcome: Outcome::Done,
-            closing: t.closing(),
+            closing: closing_of(t),
             next: Session::closed(),
         }
     }
 }
 
-impl Closing {
-    // A code with the five numbers at 0, and an identifier.
-    fn none(code: u8, id: [u8; 25]) -> Closing
-        ensures { λ r. ⌜ r ≡ closingOf (blank 0 code id) ⌝ }
-    {
-        let none = Totals { count: 0, sum: 0 };
-        Closing {
-            code: code,
-            accepted: none,
-            refused: none,
-            zeros: 0,
-            id: id,
-        }
+// A code with the five numbers at 0, and an identifier.
+fn blank(code: u8, id: [u8; 25]) -> Closing
+    ensures { λ r. ⌜ r ≡ blank code id ⌝ }
+{
+    let none = Totals { count: 0, sum: 0 };
+    Closing {
+        code: code,
+        accepted: none,
+        refused: none,
+        zeros: 0,
+        id: id,
     }
 }
 
-impl Tally {
-    // What closing gives for a tally that is not overflown.
-    fn closing(self) -> Closing
-        requires { ⌜ self .phase ≤ 3 ⌝ }
-        ensures { λ r. ⌜ r ≡ closingOf (closing (stateWith self [] [])) ⌝ }
-    {
-        let id = self.id;
-        if self.phase != 2 {
-            return Closing::none(26, id);
-        }
-        if self.letter {
-            return Closing::none(36, id);
-        }
-        let code = self.code;
-        if code != 0 {
-            return Closing::none(code, id);
-        }
-        let a = self.accepted;
-        let r = self.refused;
-        Closing {
-            code: 0,
-            accepted: a,
-            refused: r,
-            zeros: self.zeros,
-            id: id,
-        }
+// What closing gives for a tally that is not overflown.
+fn closing_of(t: Tally) -> Closing
+    requires { ⌜ t .phase ≤ 3 ⌝ }
+    ensures { λ r. ⌜ r ≡ closing t .closing ⌝ }
+{
+    let id = t.id;
+    if t.phase != 2 {
+        return blank(26, id);
+    }
+    if t.letter {
+        return blank(36, id);
+    }
+    let code = t.code;
+    if code != 0 {
+        return blank(code, id);
+    }
+    let a = t.accepted;
+    let r = t.refused;
+    Closing {
+        code: 0,
+        accepted: a,
+        refused: r,
+        zeros: t.zeros,
+        id: id,
     }
 }

@@ -1,22 +1,23 @@
-// Runs the lines of standard input through every public function of digits, calendar, text and lists, and through the foot's rules. A line is
-// a command letter, a space and bytes; each is printed again with a tab and the answers (reference/leaves.py says which).
+// Runs the lines of standard input through every public function of text, digits, cdv, account, calendar, lists and purposes, and through
+// the foot's rules. A line is a command letter, a space and bytes; each is printed again with a tab and the answers (reference/leaves.py
+// says which).
+use console::put;
+use console::put_next;
 use libc::STDIN_FILENO;
 use script::end_of;
 use script::field;
-use script::put;
-use script::put_number;
 
 fn put_flag(yes: bool) {
-    put_number(yes as u64);
+    put_next(yes as u64);
 }
 
 fn decimal(s: &[u8]) {
     put_flag(digits::is_digits(s));
-    put_number(digits::number(s));
+    put_next(digits::number(s));
 }
 
 fn account(s: &[u8]) {
-    put_number(
+    put_next(
         match account::read(s) {
             account::Account::Good => 0,
             account::Account::Form => 1,
@@ -98,12 +99,12 @@ fn every_byte() {
 
 fn date_field(s: &[u8]) {
     match calendar::read_date(s) {
-        calendar::Reading::Date(n) => {
+        calendar::DateField::Date(n) => {
             put_flag(calendar::is_date(n));
-            put_number(calendar::day_number(n) as u64);
+            put_next(calendar::day_number(n) as u64);
         }
-        calendar::Reading::NotDigits => put_number(2),
-        calendar::Reading::NoDate => put_number(3),
+        calendar::DateField::NotDigits => put_next(2),
+        calendar::DateField::NoDate => put_next(3),
     }
 }
 
@@ -136,30 +137,13 @@ fn listed(list: &[u32], code: u32) {
     }
 }
 
-// The numbers of ten digits each that follow the first, in the list that is lent.
-fn fill(list: &mut [u32], s: &[u8]) {
-    let mut i = 0;
-    while i < list.len() {
-        if i + 1 >= s.len() / 10 {
-            return;
-        }
-        let at = i * 10 + 10;
-        list[i] = field(s, at, at + 10);
-        i += 1;
-    }
-}
-
 // A code, and the numbers of a bank list, ten digits each.
 fn banks(space: &mut [u32], s: &[u8]) {
     if s.len() < 10 {
         return;
     }
-    let count = s.len() / 10 - 1;
-    if count > space.len() {
-        return;
-    }
-    fill(space, s);
-    listed(&space[0..count], field(s, 0, 10));
+    let count = script::fill(space, &s[10..]);
+    listed(&space[..count], field(s, 0, 10));
 }
 
 // An identifier, and a known list.
@@ -181,7 +165,7 @@ fn foot(s: &[u8]) {
     }
     let count = digits::number(&s[0..10]);
     let sum = digits::number(&s[10..26]);
-    put_number(atutal::foot::judge(&s[26..], count, sum) as u64);
+    put_next(atutal::foot::code_in(&s[26..], count, sum) as u64);
 }
 
 fn answer(command: u8, s: &[u8]) {

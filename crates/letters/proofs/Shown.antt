@@ -3,7 +3,7 @@
 use mathlib.Core.Path.{_≡_, refl, sym, ap, _∙_}
 use mathlib.Core.Bool.{Bool, true, false, cond, _&&_}
 use mathlib.Core.List.{List, [], _∷_, _++_, append-assoc, append-nil}
-use Prim.Native.Nat.{ℕ, zero, suc, _+_, _-_, _/_, _%_, _≤_, _<_}
+use Prim.Native.Nat.{ℕ, _+_, _-_, _/_, _%_, _≤_, _<_}
 use native.Mathlib.Nat.{add-zero}
 use native.Mathlib.Numerals.{add-one}
 use native.Mathlib.Omega.{arith}
@@ -125,7 +125,10 @@ module _ (s : List ℕ) (i : ℕ) (h : i < length s) where
   here = rw (add-one, drop-cons s i 0 h)
 
   one-more : shown (take (i + 1) s) ≡ shown (take i s) ++ shownByte (getD s i 0)
-  one-more = rw (add-one, take-suc s i 0 h) (shown-append (take i s) (getD s i 0 ∷ []) ∙ ap (λ (l : List ℕ). shown (take i s) ++ l) (append-nil (shownByte (getD s i 0))))
+  one-more =
+      let b = getD s i 0 in
+      let alone = ap (λ (l : List ℕ). shown (take i s) ++ l) (append-nil (shownByte b)) in
+      rw (add-one, take-suc s i 0 h) (shown-append (take i s) (b ∷ []) ∙ alone)
 
   parts : shown s ≡ shown (take i s) ++ (shownByte (getD s i 0) ++ shown (drop (i + 1) s))
   parts = ap shown (sym (take-append-drop i s)) ∙ shown-append (take i s) (drop i s) ∙ ap (λ (l : List ℕ). shown (take i s) ++ l) here
@@ -152,7 +155,9 @@ less w n left h = go (leb n (left - w)) refl
 module _ {s : List ℕ} {room i left : ℕ} (l : Left s room i left) where
   module _ (h : i < length s) {w : ℕ} (e : w ≡ length (shownByte (getD s i 0))) where
     as-sum : length (shown (drop i s)) ≡ w + length (shown (drop (i + 1) s))
-    as-sum = ap length (here s i h) ∙ length-append (shownByte (getD s i 0)) (shown (drop (i + 1) s)) ∙ ap (λ (n : ℕ). n + length (shown (drop (i + 1) s))) (sym e)
+    as-sum =
+        let rest = shown (drop (i + 1) s) in
+        ap length (here s i h) ∙ length-append (shownByte (getD s i 0)) rest ∙ ap (λ (n : ℕ). n + length rest) (sym e)
 
     pub no-room : left < w → false ≡ leb (length (shown s)) room
     no-room k = sym (l .decides ∙ lt-leb (length (shown (drop i s))) left (omega (arith, as-sum)))

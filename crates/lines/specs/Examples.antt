@@ -5,8 +5,8 @@ use mathlib.Core.List.{[], _∷_, _++_, map}
 use Rattle.base.specs.Bytes.{ascii}
 use Rattle.digits.specs.Digits.{figures}
 use Rattle.frame.specs.Records.{noId}
-use Rattle.judge.specs.Session.{none}
-use Rattle.findings.specs.declared.refusal.Refusal.the-variants.{NotADay, Overflow}
+use Rattle.frame.specs.Verdict.{none}
+use Rattle.lent.specs.declared.Refusal.the-variants.{NotADay, Overflow}
 use Rattle.lines.specs.Slip.{lineEnd, places, slipOf, refusalLine}
 use Rattle.lines.specs.Facts.{orderLine, addressLines, ownLines, countLines, statusText, itemLine}
 

@@ -6,7 +6,7 @@ use mathlib.Core.List.{List, [], _∷_, _++_}
 use lib.Dec.{ltb}
 use Rattle.base.specs.Bytes.{ascii, field}
 use Rattle.digits.specs.Digits.{figures}
-use Rattle.status.specs.declared.Status.{Status}
+use Rattle.frame.specs.declared.Status.{Status}
 use Rattle.lines.specs.Slip.{lineEnd, places, line, totalsLine}
 
 -- how many digits a number gets: at least w, and more where it has more

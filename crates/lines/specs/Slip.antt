@@ -6,10 +6,10 @@ use mathlib.Core.List.{List, [], _∷_, _++_}
 use lib.Dec.{ltb}
 use Rattle.base.specs.Bytes.{ascii}
 use Rattle.digits.specs.Digits.{figures}
-use Rattle.findings.specs.Refusals.{refusalNumber}
-use Rattle.findings.specs.declared.refusal.Refusal.{Refusal}
-use Rattle.judge.specs.declared.Totals.{Totals}
-use Rattle.judge.specs.declared.Closing.{Closing}
+use Rattle.lent.specs.Lent.{refusalNumber}
+use Rattle.lent.specs.declared.Refusal.{Refusal}
+use Rattle.frame.specs.declared.Totals.{Totals}
+use Rattle.frame.specs.declared.Closing.{Closing}
 
 -- each line is ended by 0Ah
 abbrev pub lineEnd : List ℕ

@@ -15,11 +15,9 @@ ghost use Rattle.lines.specs.Facts.{
   itemLine,
 };
 use crate::slip::places;
-use crate::slip::put;
 use crate::slip::put_line;
-use crate::slip::put_number;
 use crate::slip::put_totals;
-use status::Status;
+use frame::Status;
 
 // How many digits a number gets that is to have at least so many.
 fn width(least: usize, n: u64) -> usize
@@ -45,9 +43,9 @@ fn put_three(out: &mut [u8], at: usize, a: &[u8], b: &[u8], c: &[u8]) -> usize
     requires { ⌜ at + length (now a ++ now b ++ now c) ≤ length (now out) ⌝ }
     ensures { λ r. ⌜ Put (now (out .entry)) at (now (a .entry) ++ now (b .entry) ++ now (c .entry)) r (now (out .exit)) ⌝ }
 {
-    let i = put(out, at, a);
-    let i = put(out, i, b);
-    put(out, i, c)
+    let i = text::put_at(out, at, a);
+    let i = text::put_at(out, i, b);
+    text::put_at(out, i, c)
 }
 
 // The order's positions 10-34: initiator, date and number.
@@ -57,7 +55,7 @@ fn put_order(out: &mut [u8], at: usize, id: &[u8]) -> usize
 {
     let i = put_three(out, at, b"ORDER ", &id[0..13], b" ");
     let i = put_three(out, i, &id[13..21], b" ", &id[21..25]);
-    put(out, i, b"\n")
+    text::put_at(out, i, b"\n")
 }
 
 // The lines of positions 9-34 of the head.
@@ -141,7 +139,7 @@ pub fn put_item(out: &mut [u8], place: u64, code: u8) -> usize
     if out.len() < 7 + w + width(2, code as u64) {
         return 0;
     }
-    let i = put(out, 0, b"ITEM ");
-    let i = put_number(out, i, w, place);
+    let i = text::put_at(out, 0, b"ITEM ");
+    let i = digits::put_at(out, i, w, place);
     put_fact(out, i, b" ", 2, code as u64)
 }

@@ -2,12 +2,11 @@
 ghost use mathlib.Core.Path.{_≡_};
 ghost use Prim.Native.Nat.{_+_, _^_, _≤_, _<_};
 ghost use lib.ListN.{length};
-ghost use Rattle.digits.specs.Digits.{figures};
 ghost use Rattle.base.specs.Put.{Written, Put};
 ghost use Rattle.lines.specs.Slip.{places, codeWidth, line, totalsLine, slipOf, refusalLine};
-use findings::refusal::Refusal;
-use judge::Closing;
-use judge::Totals;
+use frame::Closing;
+use frame::Totals;
+use lent::Refusal;
 
 // How many digits a number has, 1 for 0.
 pub(crate) fn places(n: u64) -> usize
@@ -29,32 +28,14 @@ fn code_width(code: u8) -> usize
     if code < 100 { 2 } else { 3 }
 }
 
-// Bytes at a place of the output; the place after them.
-pub(crate) fn put(out: &mut [u8], at: usize, s: &[u8]) -> usize
-    requires { ⌜ at + length (now s) ≤ length (now out) ⌝ }
-    ensures { λ r. ⌜ Put (now (out .entry)) at (now (s .entry)) r (now (out .exit)) ⌝ }
-{
-    text::put(&mut out[at..], s);
-    at + s.len()
-}
-
-// A number of so many digits at a place of the output.
-pub(crate) fn put_number(out: &mut [u8], at: usize, w: usize, n: u64) -> usize
-    requires { ⌜ (at + w ≤ length (now out)) × (n < 10 ^ w) ⌝ }
-    ensures { λ r. ⌜ Put (now (out .entry)) at (figures w n) r (now (out .exit)) ⌝ }
-{
-    digits::put_number(&mut out[at..], w, n);
-    at + w
-}
-
 // A word, a number of so many digits, 0Ah.
 pub(crate) fn put_line(out: &mut [u8], at: usize, word: &[u8], w: usize, n: u64) -> usize
     requires { ⌜ (at + length (line (now word) w n) ≤ length (now out)) × (n < 10 ^ w) ⌝ }
     ensures { λ r. ⌜ Put (now (out .entry)) at (line (now (word .entry)) w n) r (now (out .exit)) ⌝ }
 {
-    let i = put(out, at, word);
-    let i = put_number(out, i, w, n);
-    put(out, i, b"\n")
+    let i = text::put_at(out, at, word);
+    let i = digits::put_at(out, i, w, n);
+    text::put_at(out, i, b"\n")
 }
 
 // A word, how many items, their sum, 0Ah.
@@ -62,8 +43,8 @@ pub(crate) fn put_totals(out: &mut [u8], at: usize, word: &[u8], t: Totals) -> u
     requires { ⌜ at + length (totalsLine (now word) t) ≤ length (now out) ⌝ }
     ensures { λ r. ⌜ Put (now (out .entry)) at (totalsLine (now (word .entry)) t) r (now (out .exit)) ⌝ }
 {
-    let i = put(out, at, word);
-    let i = put_number(out, i, places(t.count), t.count);
+    let i = text::put_at(out, at, word);
+    let i = digits::put_at(out, i, places(t.count), t.count);
     put_line(out, i, b" ", places(t.sum), t.sum)
 }
 
@@ -97,7 +78,7 @@ pub fn put_closing(out: &mut [u8], k: Closing) -> usize
 pub fn put_refusal(out: &mut [u8], r: Refusal) -> usize
     ensures { λ n. ⌜ Written (refusalLine r) (now (out .entry)) n (now (out .exit)) ⌝ }
 {
-    let n = findings::refusal::number(r) as u64;
+    let n = lent::number(r) as u64;
     let w = places(n);
     if out.len() < 9 + w {
         return 0;

@@ -1,12 +1,13 @@
 // A whole message judged in one call (01, Calls and their answers).
 ghost use mathlib.Core.Path.{_≡_};
+ghost use Rattle.lent.specs.Lent.{lent};
 ghost use Rattle.judge.specs.Session.{refusedAs, JudgedAs};
-use findings::refusal::Refusal;
-use judge::Closing;
+use frame::Closing;
+use frame::Totals;
 use judge::Judged;
-use judge::Outcome;
 use judge::Session;
-use judge::Totals;
+use lent::Outcome;
+use lent::Refusal;
 
 // A refusal, with no numbers.
 fn refused(r: Refusal) -> Judged
@@ -28,7 +29,7 @@ fn refused(r: Refusal) -> Judged
 
 // A whole message is judged: opening, one piece and closing; refusals 1, 4, 2, 3, 6.
 pub fn judge(day: u32, banks: &[u32], known: &[u8], table: &mut [u8], message: &[u8]) -> Judged
-    ensures { λ r. ⌜ JudgedAs day (now (banks .entry)) (now (known .entry)) (now (table .entry)) (now (message .entry)) r (now (table .exit)) ⌝ }
+    ensures { λ r. ⌜ JudgedAs (lent day (now (banks .entry)) (now (known .entry))) (now (table .entry)) (now (message .entry)) r (now (table .exit)) ⌝ }
 {
     let opened = Session::open(day, table);
     let o = opened.outcome;

@@ -8,14 +8,26 @@ use lib.Dec.{eqb}
 use lib.ListN.{length}
 use borrow.Author.Tests.{not-true, not-false, eq-eqb, ne-eqb, eqb-true}
 use Rattle.base.proofs.Every.{both}
+use Rattle.lent.specs.Lent.{Lent, outcomeNumber}
 use Rattle.judge.specs.declared.Judged.{Judged}
-use Rattle.judge.specs.Session.{outcomeNumber, JudgedAs}
+use Rattle.judge.specs.Session.{JudgedAs}
 use Rattle.status.specs.declared.reply.Answer.{Answer}
 use Rattle.status.specs.Reply.{Replied}
 use Rattle.reading.specs.declared.Read.{Read}
 use Rattle.reading.specs.Reading.{ReadAs}
 use Rattle.nshanvekh.specs.Session.{closingNumbers, Told}
-use Rattle.nshanvekh.specs.Message.{sizedBoth, JudgedNumbers, replyNumber, replyNumbers, particularsOf, ReplyTold, RepliedAs, statusNumbers, StatusTold, StatusAs}
+use Rattle.nshanvekh.specs.Message.{
+  sizedBoth,
+  JudgedNumbers,
+  replyNumber,
+  replyNumbers,
+  particularsOf,
+  ReplyTold,
+  RepliedAs,
+  statusNumbers,
+  StatusTold,
+  StatusAs,
+}
 
 -- numbers and identifier of the sizes that a call asks for
 pub sizes : (ns : List ℕ) (k : ℕ) (id : List ℕ) → not (sizedBoth ns k id) ≡ false → (length ns ≡ k) × (length id ≡ 25)
@@ -23,14 +35,14 @@ sizes ns k id f =
     let h = both (eqb (length ns) k) _ (not-false (sizedBoth ns k id) f) in
     (eqb-true (length ns) k (h .0), eqb-true (length id) 25 (h .1))
 
-module _ {m : List ℕ} {e : ℕ} {banks known t ns id : List ℕ} where
-  pub judge-wrong : not (sizedBoth ns 6 id) ≡ true → JudgedNumbers m e banks known t ns id 99 t ns id
+module _ {m : List ℕ} {l : Lent} {t ns id : List ℕ} where
+  pub judge-wrong : not (sizedBoth ns 6 id) ≡ true → JudgedNumbers m l t ns id 99 t ns id
   judge-wrong f =
       let h = not-true (sizedBoth ns 6 id) f in
       record { answer = rw h; table = rw h; numbers = refl; identifier = refl }
 
-  pub judge-told : not (sizedBoth ns 6 id) ≡ false → {j : Judged} {t′ : List ℕ} → JudgedAs e banks known t m j t′ → {n : ℕ} → n ≡ outcomeNumber (j .outcome)
-      → {r : ℕ} {ns′ id′ : List ℕ} → Told n (j .closing) ns id r ns′ id′ → JudgedNumbers m e banks known t ns id r t′ ns′ id′
+  pub judge-told : not (sizedBoth ns 6 id) ≡ false → {j : Judged} {t′ : List ℕ} → JudgedAs l t m j t′ → {n : ℕ} → n ≡ outcomeNumber (j .outcome)
+      → {r : ℕ} {ns′ id′ : List ℕ} → Told n (j .closing) ns id r ns′ id′ → JudgedNumbers m l t ns id r t′ ns′ id′
   judge-told f {j} w {n} q {r} o =
       let h = not-false (sizedBoth ns 6 id) f in
       let a : r ≡ n = o .answer in
@@ -41,14 +53,14 @@ module _ {m : List ℕ} {e : ℕ} {banks known t ns id : List ℕ} where
         identifier = rw a (o .identifier ∙ ap (λ (y : Judged). cond (eqb n 0) (y .closing .id) id) (w .result));
       }
 
-module _ {m : List ℕ} {e : ℕ} {banks known : List ℕ} {d n t : ℕ} {out ns : List ℕ} where
-  pub reply-wrong : (length ns ≡ 1 → ⊥) → RepliedAs m e banks known d n t out ns 99 out ns
+module _ {m : List ℕ} {l : Lent} {d n t : ℕ} {out ns : List ℕ} where
+  pub reply-wrong : (length ns ≡ 1 → ⊥) → RepliedAs m l d n t out ns 99 out ns
   reply-wrong h =
       let q = ne-eqb (length ns) 1 h in
       record { told = rw q; bytes = rw q; numbers = rw q }
 
-  pub reply-told : length ns ≡ 1 → {a : Answer} {out′ : List ℕ} → Replied e banks known m (particularsOf d n t) out a out′
-      → {r : ℕ} {ns′ : List ℕ} → ReplyTold a ns r ns′ → RepliedAs m e banks known d n t out ns r out′ ns′
+  pub reply-told : length ns ≡ 1 → {a : Answer} {out′ : List ℕ} → Replied l m (particularsOf d n t) out a out′
+      → {r : ℕ} {ns′ : List ℕ} → ReplyTold a ns r ns′ → RepliedAs m l d n t out ns r out′ ns′
   reply-told h w o =
       let q = eq-eqb (length ns) 1 h in
       record {

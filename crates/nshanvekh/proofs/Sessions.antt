@@ -9,36 +9,36 @@ use lib.Dec.{eqb}
 use lib.ListN.{length}
 use borrow.Author.Tests.{not-true, not-false, eq-eqb, ne-eqb, eqb-true}
 use Rattle.base.proofs.Every.{both}
-use Rattle.findings.specs.declared.refusal.Refusal.the-variants as refusal
+use Rattle.lent.specs.Lent.{Lists, outcomeNumber, by}
+use Rattle.lent.specs.declared.Refusal.the-variants as refusal
 use Rattle.judge.specs.declared.Session.{Session}
-use Rattle.judge.specs.declared.Outcome.{Outcome}
-use Rattle.judge.specs.declared.Outcome.the-variants.{Done, Refused}
+use Rattle.lent.specs.declared.Outcome.{Outcome}
+use Rattle.lent.specs.declared.Outcome.the-variants.{Done, Refused}
 use Rattle.judge.specs.declared.Taken.{Taken}
 use Rattle.judge.specs.declared.Closed.{Closed}
-use Rattle.judge.specs.Session.{outcomeNumber, opened, taken, closedOf}
-use Rattle.judge.specs.Feeding.{by}
-use Rattle.packed.specs.Packed.{bytesOf, isPacked, unpacked, PackedAs, TakenIn}
+use Rattle.judge.specs.Session.{opened, pieceRefused, taken, closedOf}
+use Rattle.packed.specs.Packed.{packedBytes, bytesOf, isPacked, unpacked, PackedAs, TakenIn}
 use Rattle.packed.proofs.Taking.{closed-out}
 use Rattle.nshanvekh.specs.Session.{ifDone, OpenedAs, PieceAs, closingNumbers, Told, sizedAll, ClosedAs}
 
 -- a session that was packed into a whole buffer
-module _ {s : Session} {x : List ℕ} {b : Bool} {x′ : List ℕ} (h : length x ≡ 344) (p : PackedAs s x b x′) where
+module _ {s : Session} {x : List ℕ} {b : Bool} {x′ : List ℕ} (h : length x ≡ packedBytes) (p : PackedAs s x b x′) where
   packed-is : x′ ≡ bytesOf s
-  packed-is = rw (eq-eqb (length x) 344 h) at (p .bytes)
+  packed-is = rw (eq-eqb (length x) packedBytes h) at (p .bytes)
 
   held : unpacked x′ ≡ s
   held = ap unpacked packed-is ∙ p .back
 
 module _ {e : ℕ} {t x : List ℕ} where
-  pub open-wrong : (length x ≡ 344 → ⊥) → OpenedAs e t x 99 x
+  pub open-wrong : (length x ≡ packedBytes → ⊥) → OpenedAs e t x 99 x
   open-wrong h =
-      let q = ne-eqb (length x) 344 h in
-      record { answer = rw q; session = rw q; holds = λ k. absurd (h (eqb-true (length x) 344 k)) }
+      let q = ne-eqb (length x) packedBytes h in
+      record { answer = rw q; session = rw q; holds = λ k. absurd (h (eqb-true (length x) packedBytes k)) }
 
-  pub open-right : length x ≡ 344 → {o : Taken} → o ≡ opened e t → {b : Bool} {x′ : List ℕ} → PackedAs (o .next) x b x′
+  pub open-right : length x ≡ packedBytes → {o : Taken} → o ≡ opened e t → {b : Bool} {x′ : List ℕ} → PackedAs (o .next) x b x′
       → {r : ℕ} → r ≡ outcomeNumber (o .outcome) → OpenedAs e t x r x′
   open-right h {o} i {b} {x′} p {r} n =
-      let q = eq-eqb (length x) 344 h in
+      let q = eq-eqb (length x) packedBytes h in
       record {
         answer = rw q (n ∙ ap (λ (w : Taken). outcomeNumber (w .outcome)) i);
         session = rw q (packed-is h p ∙ ap (λ (w : Taken). bytesOf (w .next)) i);
@@ -59,19 +59,19 @@ if-done (Refused refusal.Particulars) new old = refl
 if-done (Refused refusal.Room) new old = refl
 if-done (Refused refusal.Malformed) new old = refl
 
-module _ {x p banks known t : List ℕ} where
-  pub piece-wrong : (length x ≡ 344 → ⊥) → PieceAs x p banks known t 99 x t
+module _ {x p : List ℕ} {l : Lists} {t : List ℕ} where
+  pub piece-wrong : (length x ≡ packedBytes → ⊥) → PieceAs x p l t 99 x t
   piece-wrong h =
-      let q = ne-eqb (length x) 344 h in
+      let q = ne-eqb (length x) packedBytes h in
       record { answer = rw q; session = refl; table = rw q; holds = λ k. absurd (omega arith) }
 
-  pub piece-right : length x ≡ 344 → {o : Outcome} {x′ t′ : List ℕ} → TakenIn x p banks known t o x′ t′ → {r : ℕ} → r ≡ outcomeNumber o
-      → PieceAs x p banks known t r x′ t′
+  pub piece-right : length x ≡ packedBytes → {o : Outcome} {x′ t′ : List ℕ} → TakenIn x p l t o x′ t′ → {r : ℕ} → r ≡ outcomeNumber o
+      → PieceAs x p l t r x′ t′
   piece-right h {o} k n =
-      let q = eq-eqb (length x) 344 h in
+      let q = eq-eqb (length x) packedBytes h in
       record {
         answer = rw q (n ∙ ap outcomeNumber (k .outcome));
-        session = rw n (k .session ∙ if-done o (bytesOf (taken (unpacked x) p banks known t .next)) x);
+        session = rw n (k .session ∙ if-done o (bytesOf (taken (unpacked x) p l t .next)) x);
         table = rw q (k .table);
         holds = λ z. k .holds;
       }
@@ -87,7 +87,8 @@ module _ {x ns id : List ℕ} where
       let h = not-true (sizedAll x ns id) f in
       record { answer = rw h; session = rw h; numbers = refl; identifier = refl }
 
-  module _ (f : not (sizedAll x ns id) ≡ false) {s : Session} (i : s ≡ unpacked x) {c : Closed} (k : c ≡ closedOf s) {n : ℕ} (m : n ≡ outcomeNumber (c .outcome)) where
+  module _ (f : not (sizedAll x ns id) ≡ false) {s : Session} (i : s ≡ unpacked x) {c : Closed} (k : c ≡ closedOf s) {n : ℕ}
+      (m : n ≡ outcomeNumber (c .outcome)) where
     -- 5 leaves all as it was
     pub close-refused : n ≡ 5 → ClosedAs x ns id n x ns id
     close-refused e =
@@ -98,7 +99,7 @@ module _ {x ns id : List ℕ} where
         → Told n (c .closing) ns id r ns′ id′ → ClosedAs x ns id r x′ ns′ id′
     close-told e p {r} o =
         let h = not-false (sizedAll x ns id) f in
-        let l = eqb-true (length x) 344 (both (eqb (length x) 344) _ h .0) in
+        let l = eqb-true (length x) packedBytes (both (eqb (length x) packedBytes) _ h .0) in
         let q : c ≡ closedOf (unpacked x) = k ∙ ap closedOf i in
         let a : r ≡ n = o .answer in
         record {
@@ -111,14 +112,14 @@ module _ {x ns id : List ℕ} where
 -- six numbers and an identifier
 pub close-sizes : (x ns id : List ℕ) → not (sizedAll x ns id) ≡ false → (length ns ≡ 6) × (length id ≡ 25)
 close-sizes x ns id f =
-    let h = both (eqb (length x) 344) _ (not-false (sizedAll x ns id) f) .1 in
+    let h = both (eqb (length x) packedBytes) _ (not-false (sizedAll x ns id) f) .1 in
     (eqb-true (length ns) 6 (both (eqb (length ns) 6) _ h .0), eqb-true (length id) 25 (both (eqb (length ns) 6) _ h .1))
 
 -- bytes that are no session's are refused with 5
 module _ (x : List ℕ) (h : isPacked x ≡ false) where
-  pub piece-five : (p banks known t : List ℕ) → outcomeNumber (taken (unpacked x) p banks known t .outcome) ≡ 5
-  unfolding taken unpacked
-  piece-five p banks known t = rw (h, closed-out)
+  pub piece-five : (p : List ℕ) (l : Lists) (t : List ℕ) → outcomeNumber (taken (unpacked x) p l t .outcome) ≡ 5
+  unfolding taken pieceRefused unpacked
+  piece-five p l t = rw (h, closed-out)
 
   pub close-five : outcomeNumber (closedOf (unpacked x) .outcome) ≡ 5
   unfolding closedOf unpacked

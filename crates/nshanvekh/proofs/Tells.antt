@@ -7,8 +7,8 @@ use lib.ListN.{length}
 use lib.Seq.{sets}
 use borrow.Author.Tests.{eq-eqb, ne-eqb}
 use Rattle.text.specs.Text.{withBytes}
-use Rattle.judge.specs.declared.Closing.{Closing}
-use Rattle.status.specs.declared.Status.{Status}
+use Rattle.frame.specs.declared.Closing.{Closing}
+use Rattle.frame.specs.declared.Status.{Status}
 use Rattle.status.specs.declared.reply.Answer.{Answer}
 use Rattle.status.specs.declared.reply.Answer.the-variants.{Written}
 use Rattle.nshanvekh.specs.Session.{closingNumbers, Told}
@@ -34,7 +34,8 @@ module _ {n : ℕ} {ns id : List ℕ} where
       record { answer = refl; numbers = rw q; identifier = rw q }
 
   pub status-all : {s : Status} → n ≡ 0 → length ns ≡ 10 → length id ≡ 25 → length (s .id) ≡ 25 → {id′ : List ℕ} → id′ ≡ withBytes id (s .id)
-      → StatusTold n s ns id n (sets ns 0 (s .duplicate ∷ s .date ∷ s .number ∷ s .time ∷ s .code ∷ s .accepted .count ∷ s .accepted .sum ∷ s .refused .count ∷ s .refused .sum ∷ s .references ∷ [])) id′
+      → StatusTold n s ns id n (sets ns 0 (s .duplicate ∷ s .date ∷ s .number ∷ s .time ∷ s .code ∷ s .accepted .count ∷ s .accepted .sum ∷ s .refused .count
+      ∷ s .refused .sum ∷ s .references ∷ [])) id′
   unfolding statusNumbers
   status-all {s} h l m o {id′} e =
       let q = eq-eqb n 0 h in

@@ -5,9 +5,9 @@ use Prim.Native.Nat.{ℕ}
 use mathlib.Core.Path.{_≡_}
 use mathlib.Core.Bool.{Bool, cond, _&&_}
 use mathlib.Core.List.{List, [], _∷_}
-use Rattle.findings.specs.Refusals.{refusalNumber}
-use Rattle.judge.specs.Session.{outcomeNumber, judgedOf, tableJudged}
-use Rattle.status.specs.declared.Status.{Status}
+use Rattle.lent.specs.Lent.{Lent, refusalNumber, outcomeNumber}
+use Rattle.judge.specs.Session.{judgedOf, tableJudged}
+use Rattle.frame.specs.declared.Status.{Status}
 use Rattle.status.specs.declared.reply.Particulars.{Particulars}
 use Rattle.status.specs.declared.reply.Answer.{Answer}
 use Rattle.status.specs.declared.reply.Answer.the-variants.{Written, Refused}
@@ -20,11 +20,11 @@ abbrev pub sizedBoth : List ℕ → ℕ → List ℕ → Bool
 sizedBoth ns n id = sized ns n && sized id 25
 
 -- judging a whole message; codes written before an overflow stay in the table
-pub record JudgedNumbers (m : List ℕ) (e : ℕ) (banks known t ns id : List ℕ) (r : ℕ) (t′ ns′ id′ : List ℕ) : Type 0 where
-  pub answer : r ≡ cond (sizedBoth ns 6 id) (outcomeNumber (judgedOf e banks known t m .outcome)) wrongSize
-  pub table : t′ ≡ cond (sizedBoth ns 6 id) (tableJudged e banks known t m) t
-  pub numbers : ns′ ≡ ifDone r (closingNumbers (judgedOf e banks known t m .closing)) ns
-  pub identifier : id′ ≡ ifDone r (judgedOf e banks known t m .closing .id) id
+pub record JudgedNumbers (m : List ℕ) (l : Lent) (t ns id : List ℕ) (r : ℕ) (t′ ns′ id′ : List ℕ) : Type 0 where
+  pub answer : r ≡ cond (sizedBoth ns 6 id) (outcomeNumber (judgedOf l t m .outcome)) wrongSize
+  pub table : t′ ≡ cond (sizedBoth ns 6 id) (tableJudged l t m) t
+  pub numbers : ns′ ≡ ifDone r (closingNumbers (judgedOf l t m .closing)) ns
+  pub identifier : id′ ≡ ifDone r (judgedOf l t m .closing .id) id
 
 -- the number of a reply's answer, and the length that is told
 abbrev pub replyNumber : Answer → ℕ
@@ -43,10 +43,10 @@ abbrev pub particularsOf : ℕ → ℕ → ℕ → Particulars
 particularsOf d n t = record { duplicate = d; number = n; time = t }
 
 -- the reply to a message
-pub record RepliedAs (m : List ℕ) (e : ℕ) (banks known : List ℕ) (d n t : ℕ) (out ns : List ℕ) (r : ℕ) (out′ ns′ : List ℕ) : Type 0 where
-  pub told : r ≡ cond (sized ns 1) (replyNumber (answerOf e banks known m (particularsOf d n t) out)) wrongSize
-  pub bytes : out′ ≡ cond (sized ns 1) (output e banks known m (particularsOf d n t) out) out
-  pub numbers : ns′ ≡ cond (sized ns 1) (replyNumbers (answerOf e banks known m (particularsOf d n t) out) ns) ns
+pub record RepliedAs (m : List ℕ) (l : Lent) (d n t : ℕ) (out ns : List ℕ) (r : ℕ) (out′ ns′ : List ℕ) : Type 0 where
+  pub told : r ≡ cond (sized ns 1) (replyNumber (answerOf l m (particularsOf d n t) out)) wrongSize
+  pub bytes : out′ ≡ cond (sized ns 1) (output l m (particularsOf d n t) out) out
+  pub numbers : ns′ ≡ cond (sized ns 1) (replyNumbers (answerOf l m (particularsOf d n t) out) ns) ns
 
 -- the numbers of a STATUS: duplicate code, date, number, time, code, accepted count and sum, refused count and sum, references
 unfoldable pub statusNumbers : Status → List ℕ

@@ -6,9 +6,10 @@ use mathlib.Core.Bool.{Bool, true, cond, _&&_}
 use mathlib.Core.List.{List, [], _∷_}
 use lib.ListN.{length}
 use lib.Dec.{eqb}
-use Rattle.judge.specs.declared.Closing.{Closing}
-use Rattle.judge.specs.Session.{outcomeNumber, opened, taken, tableTaken, closedOf}
-use Rattle.packed.specs.Packed.{bytesOf, unpacked}
+use Rattle.frame.specs.declared.Closing.{Closing}
+use Rattle.lent.specs.Lent.{Lists, outcomeNumber}
+use Rattle.judge.specs.Session.{opened, taken, tableTaken, closedOf}
+use Rattle.packed.specs.Packed.{packedBytes, bytesOf, unpacked}
 
 -- a buffer has the size that the call asks for
 abbrev pub sized : List ℕ → ℕ → Bool
@@ -24,16 +25,16 @@ ifDone n new old = cond (eqb n 0) new old
 
 -- opening; after 1 and 4 the buffer holds the closed session. What it holds is what the next call takes out
 pub record OpenedAs (e : ℕ) (t x : List ℕ) (r : ℕ) (x′ : List ℕ) : Type 0 where
-  pub answer : r ≡ cond (sized x 344) (outcomeNumber (opened e t .outcome)) wrongSize
-  pub session : x′ ≡ cond (sized x 344) (bytesOf (opened e t .next)) x
-  pub holds : sized x 344 ≡ true → unpacked x′ ≡ opened e t .next
+  pub answer : r ≡ cond (sized x packedBytes) (outcomeNumber (opened e t .outcome)) wrongSize
+  pub session : x′ ≡ cond (sized x packedBytes) (bytesOf (opened e t .next)) x
+  pub holds : sized x packedBytes ≡ true → unpacked x′ ≡ opened e t .next
 
 -- taking a piece
-pub record PieceAs (x p banks known t : List ℕ) (r : ℕ) (x′ t′ : List ℕ) : Type 0 where
-  pub answer : r ≡ cond (sized x 344) (outcomeNumber (taken (unpacked x) p banks known t .outcome)) wrongSize
-  pub session : x′ ≡ ifDone r (bytesOf (taken (unpacked x) p banks known t .next)) x
-  pub table : t′ ≡ cond (sized x 344) (tableTaken (unpacked x) p banks known t) t
-  pub holds : r ≡ 0 → unpacked x′ ≡ taken (unpacked x) p banks known t .next
+pub record PieceAs (x p : List ℕ) (l : Lists) (t : List ℕ) (r : ℕ) (x′ t′ : List ℕ) : Type 0 where
+  pub answer : r ≡ cond (sized x packedBytes) (outcomeNumber (taken (unpacked x) p l t .outcome)) wrongSize
+  pub session : x′ ≡ ifDone r (bytesOf (taken (unpacked x) p l t .next)) x
+  pub table : t′ ≡ cond (sized x packedBytes) (tableTaken (unpacked x) p l t) t
+  pub holds : r ≡ 0 → unpacked x′ ≡ taken (unpacked x) p l t .next
 
 -- the numbers of a closing: code, accepted count and sum, refused count and sum, zero watch
 unfoldable pub closingNumbers : Closing → List ℕ
@@ -47,7 +48,7 @@ pub record Told (n : ℕ) (k : Closing) (ns id : List ℕ) (r : ℕ) (ns′ id�
 
 -- a session, six numbers, an identifier
 abbrev pub sizedAll : List ℕ → List ℕ → List ℕ → Bool
-sizedAll x ns id = sized x 344 && (sized ns 6 && sized id 25)
+sizedAll x ns id = sized x packedBytes && (sized ns 6 && sized id 25)
 
 -- closing: 0 and 6 leave a closed session, 5 and 99 the bytes that came
 pub record ClosedAs (x ns id : List ℕ) (r : ℕ) (x′ ns′ id′ : List ℕ) : Type 0 where

@@ -1,16 +1,16 @@
 // What a host links: the judge as functions over numbers and lent memory (include/nshanvekh.h says how C sees each call).
-// A session is 344 bytes that the host keeps. Buffers of a wrong size are refused with 99 before anything else.
+// A session is bytes that the host keeps, `packed::BYTES` of them. Buffers of a wrong size are refused with 99 before anything else.
 ghost use mathlib.Core.Path.{_≡_};
 ghost use lib.ListN.{length};
 ghost use Rattle.single.specs.Single.{singleAnswer};
-ghost use Rattle.judge.specs.Session.{outcomeNumber};
+ghost use Rattle.lent.specs.Lent.{outcomeNumber, listed, lent};
 ghost use Rattle.nshanvekh.specs.Session.{OpenedAs, PieceAs, ClosedAs, Told};
 ghost use Rattle.nshanvekh.specs.Message.{JudgedNumbers, RepliedAs, StatusAs, StatusTold, ReplyTold};
 ghost use Rattle.single.specs.Numbers.{singleNumber};
-use judge::Closing;
-use judge::Outcome;
+use frame::Closing;
+use frame::Status;
 use judge::Session;
-use status::Status;
+use lent::Outcome;
 use status::reply::Answer;
 use status::reply::Particulars;
 
@@ -20,7 +20,7 @@ fn number_of(o: Outcome) -> u32
 {
     match o {
         Outcome::Done => 0,
-        Outcome::Refused(r) => findings::refusal::number(r) as u32,
+        Outcome::Refused(r) => lent::number(r) as u32,
     }
 }
 
@@ -69,7 +69,8 @@ pub extern "C" fn nsh_piece(
     known: &[u8],
     table: &mut [u8],
 ) -> u32
-    ensures { λ r. ⌜ PieceAs (now (session .entry)) (now (bytes .entry)) (now (banks .entry)) (now (known .entry)) (now (table .entry)) r (now (session .exit)) (now (table .exit)) ⌝ }
+    ensures { λ r. ⌜ PieceAs (now (session .entry)) (now (bytes .entry)) (listed (now (banks .entry)) (now (known .entry))) (now (table .entry))
+        r (now (session .exit)) (now (table .exit)) ⌝ }
 {
     if session.len() != packed::BYTES {
         return 99;
@@ -80,7 +81,8 @@ pub extern "C" fn nsh_piece(
 // The message is over: refusals 99, 5, 6. 5 leaves all that is lent as it was, 6 closes the session and writes nothing else.
 #[no_mangle]
 pub extern "C" fn nsh_close(session: &mut [u8], numbers: &mut [u64], id: &mut [u8]) -> u32
-    ensures { λ r. ⌜ ClosedAs (now (session .entry)) (now (numbers .entry)) (now (id .entry)) r (now (session .exit)) (now (numbers .exit)) (now (id .exit)) ⌝ }
+    ensures { λ r. ⌜ ClosedAs (now (session .entry)) (now (numbers .entry)) (now (id .entry))
+        r (now (session .exit)) (now (numbers .exit)) (now (id .exit)) ⌝ }
 {
     if !((session.len() == packed::BYTES) & ((numbers.len() == 6) & (id.len() == 25))) {
         return 99;
@@ -109,7 +111,8 @@ pub extern "C" fn nsh_judge(
     numbers: &mut [u64],
     id: &mut [u8],
 ) -> u32
-    ensures { λ r. ⌜ JudgedNumbers (now (message .entry)) day (now (banks .entry)) (now (known .entry)) (now (table .entry)) (now (numbers .entry)) (now (id .entry)) r (now (table .exit)) (now (numbers .exit)) (now (id .exit)) ⌝ }
+    ensures { λ r. ⌜ JudgedNumbers (now (message .entry)) (lent day (now (banks .entry)) (now (known .entry))) (now (table .entry))
+        (now (numbers .entry)) (now (id .entry)) r (now (table .exit)) (now (numbers .exit)) (now (id .exit)) ⌝ }
 {
     if !((numbers.len() == 6) & (id.len() == 25)) {
         return 99;
@@ -123,9 +126,9 @@ pub extern "C" fn nsh_judge(
 // A single head or item, without its ending, at place k: 0, a refusal (1, 2, 3, 10), or the field and the kind of its fault.
 #[no_mangle]
 pub extern "C" fn nsh_single(x: &[u8], day: u32, banks: &[u32], known: &[u8], place: u32) -> u32
-    ensures { λ r. ⌜ r ≡ singleNumber (singleAnswer day (now (banks .entry)) (now (known .entry)) place (now (x .entry))) ⌝ }
+    ensures { λ r. ⌜ r ≡ singleNumber (singleAnswer (lent day (now (banks .entry)) (now (known .entry))) place (now (x .entry))) ⌝ }
 {
-    single::number(single::judge(x, place as u64, day, banks, known))
+    single::number(single::answer(x, place as u64, day, banks, known))
 }
 
 // The reply's length is written, or the refusal told.
@@ -134,7 +137,7 @@ fn tell_reply(a: Answer, numbers: &mut [u64]) -> u32
     ensures { λ r. ⌜ ReplyTold a (now (numbers .entry)) r (now (numbers .exit)) ⌝ }
 {
     match a {
-        Answer::Refused(r) => findings::refusal::number(r) as u32,
+        Answer::Refused(r) => lent::number(r) as u32,
         Answer::Written(n) => {
             numbers[0] = n as u64;
             0
@@ -155,7 +158,8 @@ pub extern "C" fn nsh_reply(
     out: &mut [u8],
     numbers: &mut [u64],
 ) -> u32
-    ensures { λ r. ⌜ RepliedAs (now (message .entry)) day (now (banks .entry)) (now (known .entry)) duplicate number time (now (out .entry)) (now (numbers .entry)) r (now (out .exit)) (now (numbers .exit)) ⌝ }
+    ensures { λ r. ⌜ RepliedAs (now (message .entry)) (lent day (now (banks .entry)) (now (known .entry))) duplicate number time (now (out .entry))
+        (now (numbers .entry)) r (now (out .exit)) (now (numbers .exit)) ⌝ }
 {
     if numbers.len() != 1 {
         return 99;
@@ -204,7 +208,8 @@ pub extern "C" fn nsh_read_status(
     numbers: &mut [u64],
     id: &mut [u8],
 ) -> u32
-    ensures { λ r. ⌜ StatusAs (now (bytes .entry)) (now (table .entry)) (now (numbers .entry)) (now (id .entry)) r (now (table .exit)) (now (numbers .exit)) (now (id .exit)) ⌝ }
+    ensures { λ r. ⌜ StatusAs (now (bytes .entry)) (now (table .entry)) (now (numbers .entry)) (now (id .entry))
+        r (now (table .exit)) (now (numbers .exit)) (now (id .exit)) ⌝ }
 {
     if !((numbers.len() == 10) & (id.len() == 25)) {
         return 99;

@@ -47,22 +47,26 @@ little-value (b ∷ bs) h =
     let e = little-value bs (λ (i : ℕ) (k : i < length bs). h (suc i) (omega arith)) in
     simp (m, d, e)
 
--- eight bytes of a list
-module _ (x : List ℕ) (a : ℕ) (b : (i : ℕ) → getD x i 0 < 256) (h : a + 8 ≤ length x) where
+-- w bytes of a list
+module _ (w : ℕ) (x : List ℕ) (a : ℕ) (b : (i : ℕ) → getD x i 0 < 256) (h : a + w ≤ length x) where
   abbrev y : List ℕ
-  y = take 8 (drop a x)
+  y = take w (drop a x)
 
-  eight-length : length y ≡ 8
-  eight-length = length-take-le 8 (drop a x) (omega (arith, length-drop a x))
+  wide : length y ≡ w
+  wide = length-take-le w (drop a x) (omega (arith, length-drop a x))
 
-  eight-bytes : (i : ℕ) → i < length y → getD y i 0 < 256
-  eight-bytes i k = rw (getD-take 8 (drop a x) i 0 (omega (arith, eight-length)), getD-drop a x i 0) (b (a + i))
+  all-bytes : (i : ℕ) → i < length y → getD y i 0 < 256
+  all-bytes i k = rw (getD-take w (drop a x) i 0 (omega (arith, wide)), getD-drop a x i 0) (b (a + i))
 
-  pub value-small : valueAt a x < 18446744073709551616
-  value-small = rw eight-length at (value-lt y eight-bytes)
+  pub value-small : valueAt w a x < 256 ^ w
+  value-small = rw wide at (value-lt y all-bytes)
 
-  pub eight : little 8 (valueAt a x) ≡ y
-  eight = ap (λ (n : ℕ). little n (value y)) (sym eight-length) ∙ little-value y eight-bytes
+  pub written-back : little w (valueAt w a x) ≡ y
+  written-back = ap (λ (n : ℕ). little n (value y)) (sym wide) ∙ little-value y all-bytes
+
+-- four bytes are a number of 32 bits
+pub four-fits : (x : List ℕ) (a : ℕ) → ((i : ℕ) → getD x i 0 < 256) → a + 4 ≤ length x → {n : ℕ} → n ≡ valueAt 4 a x → n < 4294967296
+four-fits x a b h e = rw e (value-small 4 x a b h)
 
 pub eights-length : (ns : List ℕ) → length (eights ns) ≡ length ns * 8
 unfolding eights
@@ -79,38 +83,42 @@ over-cons xs a b d h =
     ap (λ (y : List ℕ). over y (a + 1) d) s ∙ over-over xs a (b ∷ []) d (omega arith)
 
 -- what is left to write of a number stands over what is written, as all of it over what stood
-pub record Put (out₀ : List ℕ) (at n : ℕ) (out : List ℕ) (left i : ℕ) : Type 0 where
+pub record Put (out₀ : List ℕ) (at w n : ℕ) (out : List ℕ) (left i : ℕ) : Type 0 where
   pub long : length out ≡ length out₀
-  pub room : at + 8 ≤ length out₀
-  pub low : i ≤ 8
-  pub stands : over out (at + i) (little (8 - i) left) ≡ over out₀ at (little 8 n)
+  pub room : at + w ≤ length out₀
+  pub low : i ≤ w
+  pub stands : over out (at + i) (little (w - i) left) ≡ over out₀ at (little w n)
 
-pub put-start : (out : List ℕ) (at n : ℕ) → at + 8 ≤ length out → Put out at n out n 0
-put-start out at n h = record { long = refl; room = h; low = omega arith; stands = rw add-zero }
+pub put-start : (out : List ℕ) (at w n : ℕ) → at + w ≤ length out → Put out at w n out n 0
+put-start out at w n h =
+    let z : w - 0 ≡ w = omega arith in
+    record { long = refl; room = h; low = omega arith; stands = rw (add-zero, z) }
 
-module _ {out₀ : List ℕ} {at n : ℕ} {out : List ℕ} {left i : ℕ} (p : Put out₀ at n out left i) where
-  pub put-on : i < 8 → Put out₀ at n (set out (at + i) (left % 256)) (left / 256) (i + 1)
+module _ {out₀ : List ℕ} {at w n : ℕ} {out : List ℕ} {left i : ℕ} (p : Put out₀ at w n out left i) where
+  pub put-on : i < w → Put out₀ at w n (set out (at + i) (left % 256)) (left / 256) (i + 1)
   unfolding little
   put-on h =
-      let k = 8 - (i + 1) in
-      let e : 8 - i ≡ suc k = omega arith in
-      let s : over out (at + i) (left % 256 ∷ little k (left / 256)) ≡ over out₀ at (little 8 n) = rw e at (p .stands) in
+      let k = w - (i + 1) in
+      let e : w - i ≡ suc k = omega arith in
+      let s : over out (at + i) (left % 256 ∷ little k (left / 256)) ≡ over out₀ at (little w n) = rw e at (p .stands) in
       let l = little-length k (left / 256) in
       let a : at + (i + 1) ≡ at + i + 1 = omega arith in
       let y = set out (at + i) (left % 256) in
+      let o : over y (at + i + 1) (little k (left / 256)) ≡ over out (at + i) (left % 256 ∷ little k (left / 256)) =
+      over-cons out (at + i) (left % 256) (little k (left / 256)) (omega (arith, l, p .long, p .room)) in
       record {
         long = length-set out (at + i) (left % 256) ∙ p .long;
         room = p .room;
         low = omega arith;
-        stands = ap (λ (j : ℕ). over y j (little k (left / 256))) a ∙ over-cons out (at + i) (left % 256) (little k (left / 256)) (omega (arith, l, p .long, p .room)) ∙ s;
+        stands = ap (λ (j : ℕ). over y j (little k (left / 256))) a ∙ o ∙ s;
       }
 
-  pub put-ends : 8 ≤ i → out ≡ over out₀ at (little 8 n)
+  pub put-ends : w ≤ i → out ≡ over out₀ at (little w n)
   unfolding little
   put-ends h =
-      let e : i ≡ 8 = omega arith in
-      let s : over out (at + 8) [] ≡ over out₀ at (little 8 n) = rw e at (p .stands) in
-      sym (over-none out (at + 8)) ∙ s
+      let e : w - i ≡ 0 = omega arith in
+      let s : over out (at + i) [] ≡ over out₀ at (little w n) = rw e at (p .stands) in
+      sym (over-none out (at + i)) ∙ s
 
 -- so with numbers
 pub record Puts (out₀ : List ℕ) (at : ℕ) (ns out : List ℕ) (i : ℕ) : Type 0 where
@@ -133,14 +141,15 @@ module _ {out₀ : List ℕ} {at : ℕ} {ns out : List ℕ} {i : ℕ} (p : Puts 
       let u = eights-length t in
       let r : at + i * 8 + 8 + length (eights t) ≤ length out = omega (arith, p .long, p .room, length-drop (i + 1) ns) in
       let s : over out (at + i * 8) (little 8 n ++ eights t) ≡ over out₀ at (eights ns) = rw f at (p .stands) in
-      let o : over (over out (at + i * 8) (little 8 n)) (at + i * 8 + length (little 8 n)) (eights t) ≡ over out (at + i * 8) (little 8 n ++ eights t) =
+      let w = over out (at + i * 8) (little 8 n) in
+      let o : over w (at + i * 8 + length (little 8 n)) (eights t) ≡ over out (at + i * 8) (little 8 n ++ eights t) =
       over-over out (at + i * 8) (little 8 n) (eights t) (omega arith) in
       let a : at + i * 8 + length (little 8 n) ≡ at + (i + 1) * 8 = omega arith in
       record {
         long = ap length q ∙ length-over out (at + i * 8) (little 8 n) (omega arith) ∙ p .long;
         room = p .room;
         low = omega arith;
-        stands = ap (λ (z : List ℕ). over z (at + (i + 1) * 8) (eights t)) q ∙ ap (λ (k : ℕ). over (over out (at + i * 8) (little 8 n)) k (eights t)) (sym a) ∙ o ∙ s;
+        stands = ap (λ (z : List ℕ). over z (at + (i + 1) * 8) (eights t)) q ∙ ap (λ (k : ℕ). over w k (eights t)) (sym a) ∙ o ∙ s;
       }
 
   pub puts-ends : length ns ≤ i → out ≡ over out₀ at (eights ns)
@@ -150,48 +159,50 @@ module _ {out₀ : List ℕ} {at : ℕ} {ns out : List ℕ} {i : ℕ} (p : Puts 
       sym (over-none out (at + i * 8)) ∙ s
 
 -- the bytes from i on are read
-pub record Read (x : List ℕ) (at n i : ℕ) : Type 0 where
-  pub room : at + 8 ≤ length x
+pub record Read (x : List ℕ) (at w n i : ℕ) : Type 0 where
+  pub room : at + w ≤ length x
+  pub wide : w ≤ 8
   pub low : at ≤ i
-  pub high : i ≤ at + 8
-  pub is : n ≡ value (take (at + 8 - i) (drop i x))
-  pub small : n < 256 ^ (at + 8 - i)
+  pub high : i ≤ at + w
+  pub is : n ≡ value (take (at + w - i) (drop i x))
+  pub small : n < 256 ^ (at + w - i)
 
-pub read-start : (x : List ℕ) (at : ℕ) → at + 8 ≤ length x → Read x at 0 (at + 8)
+pub read-start : (x : List ℕ) (at w : ℕ) → at + w ≤ length x → w ≤ 8 → Read x at w 0 (at + w)
 unfolding value
-read-start x at h =
-    let z : at + 8 - (at + 8) ≡ 0 = omega arith in
-    record { room = h; low = omega arith; high = omega arith; is = rw z; small = rw z (lit< tt) }
+read-start x at w h k =
+    let z : at + w - (at + w) ≡ 0 = omega arith in
+    record { room = h; wide = k; low = omega arith; high = omega arith; is = rw z; small = rw z (lit< tt) }
 
-read-suc : (x : List ℕ) (at n j : ℕ) → Read x at n (suc j) → at ≤ j → getD x j 0 < 256 → Read x at (n * 256 + getD x j 0) j
+read-suc : (x : List ℕ) (at w n j : ℕ) → Read x at w n (suc j) → at ≤ j → getD x j 0 < 256 → Read x at w (n * 256 + getD x j 0) j
 unfolding value
-read-suc x at n j w l b =
-    let k = at + 8 - suc j in
-    let e : at + 8 - j ≡ suc k = omega arith in
-    let c = drop-cons x j 0 (omega (arith, w .room, w .high)) in
-    let p : 256 ^ (at + 8 - j) ≡ 256 ^ k * 256 = rw (e, pow-suc) in
+read-suc x at w n j r l b =
+    let k = at + w - suc j in
+    let e : at + w - j ≡ suc k = omega (arith, r .high) in
+    let c = drop-cons x j 0 (omega (arith, r .room, r .high)) in
+    let p : 256 ^ (at + w - j) ≡ 256 ^ k * 256 = rw (e, pow-suc) in
     record {
-      room = w .room;
+      room = r .room;
+      wide = r .wide;
       low = l;
-      high = omega arith;
-      is = rw (e, c) (ap (λ (m : ℕ). m * 256 + getD x j 0) (w .is));
-      small = omega (arith, w .small);
+      high = omega (arith, r .high);
+      is = rw (e, c) (ap (λ (m : ℕ). m * 256 + getD x j 0) (r .is));
+      small = omega (arith, r .small);
     }
 
-module _ {x : List ℕ} {at n i : ℕ} (w : Read x at n i) where
+module _ {x : List ℕ} {at w n i : ℕ} (r : Read x at w n i) where
   pub read-room : at < i → n < 256 ^ 7
   read-room h =
-      let j : at + 8 - i ≤ 7 = omega arith in
-      let p : 256 ^ (at + 8 - i) ≤ 256 ^ 7 = pow-le-pow-right (lit< tt) j in
-      omega arith
+      let j : at + w - i ≤ 7 = omega (arith, r .wide) in
+      let p : 256 ^ (at + w - i) ≤ 256 ^ 7 = pow-le-pow-right (lit< tt) j in
+      omega (arith, r .small)
 
-  pub read-on : at < i → getD x (i - 1) 0 < 256 → Read x at (n * 256 + getD x (i - 1) 0) (i - 1)
+  pub read-on : at < i → getD x (i - 1) 0 < 256 → Read x at w (n * 256 + getD x (i - 1) 0) (i - 1)
   read-on h b =
       let e : i ≡ suc (i - 1) = omega arith in
-      read-suc x at n (i - 1) (rw e at w) (omega arith) b
+      read-suc x at w n (i - 1) (rw e at r) (omega arith) b
 
-  pub read-ends : i ≤ at → n ≡ valueAt at x
+  pub read-ends : i ≤ at → n ≡ valueAt w at x
   read-ends h =
-      let e : i ≡ at = omega arith in
-      let z : at + 8 - at ≡ 8 = omega arith in
-      rw (e, z) at (w .is)
+      let e : i ≡ at = omega (arith, r .low) in
+      let z : at + w - at ≡ w = omega arith in
+      rw (e, z) at (r .is)

@@ -1,19 +1,21 @@
--- The parts of a session's bytes: mark, flags, day and room, counts, identifier, bytes held, each written over its place.
+-- The parts of a session's bytes: mark, flags, day, what was told, room, counts, identifier, bytes held, each written over its place.
 -- Assumes nothing.
 use mathlib.Core.Path.{_≡_, refl, sym, ap, _∙_}
 use mathlib.Core.Bool.{Bool, true, false, cond}
 use mathlib.Core.List.{List, [], _∷_, _++_, append-nil, append-assoc}
-use Prim.Native.Nat.{ℕ, _+_, _-_, _≤_}
+use Prim.Native.Nat.{ℕ, _+_, _≤_}
 use native.Mathlib.Omega.{arith}
 use lib.ListN.{length, take, drop, length-append, length-drop, drop-of-length-le, take-append-drop}
 use lib.Seq.{take-at, drop-at, drop-drop, take-add, length-take-le}
 use mir.Val.{boolByte}
 use Rattle.base.specs.Bytes.{over}
-use Rattle.judge.specs.declared.Tally.{Tally}
+use Rattle.base.proofs.Over.{length-over}
+use Rattle.text.proofs.At.{PutAt, puts}
+use Rattle.frame.specs.declared.Tally.{Tally}
 use Rattle.judge.specs.declared.Session.{Session}
-use Rattle.judge.specs.Session.{partsOf}
-use Rattle.packed.specs.Packed.{little, flags, counts, eights, bytesOf, tallyOver}
-use Rattle.packed.proofs.Little.{eights-length}
+use Rattle.judge.specs.Session.{longest, partsOf}
+use Rattle.packed.specs.Packed.{packedBytes, little, flags, counts, eights, bytesOf, tallyOver}
+use Rattle.packed.proofs.Little.{little-length, eights-length}
 
 -- over all of a list
 pub over-all : (xs d : List ℕ) → length d ≡ length xs → over xs 0 d ≡ d
@@ -46,101 +48,178 @@ letter-byte : (l : Bool) → boolByte l ≡ cond l 1 0
 letter-byte true = refl
 letter-byte false = refl
 
-pub tally-put : (c : Tally) (fill : ℕ) (x : List ℕ) {y z w : List ℕ} → y ≡ over x 1 (c .phase ∷ boolByte (c .letter) ∷ c .code ∷ [])
-    → z ≡ over y 20 (eights (c .accepted .count ∷ c .accepted .sum ∷ c .refused .count ∷ c .refused .sum ∷ c .zeros ∷ fill ∷ [])) → w ≡ over z 68 (c .id)
-    → w ≡ tallyOver c fill x
-unfolding tallyOver flags counts
-tally-put c fill x p q r = rw (q, p, letter-byte (c .letter)) at r
+module _ (c : Tally) (fill : ℕ) (i : length (c .id) ≡ 25) (x : List ℕ) (h : length x ≡ packedBytes) where
+  abbrev front : List ℕ
+  front = c .phase ∷ boolByte (c .letter) ∷ c .code ∷ []
 
--- bytes in six parts
-record Parted (x m f d n i h : List ℕ) : Type 0 where
-  is : x ≡ m ++ f ++ d ++ n ++ i ++ h
+  pub tally-put : {r s : ℕ} {y y₁ z w : List ℕ} → PutAt x 1 front r y → y₁ ≡ over y 8 (little 4 (c .told))
+      → z ≡ over y₁ 20 (eights (c .accepted .count ∷ c .accepted .sum ∷ c .refused .count ∷ c .refused .sum ∷ c .zeros ∷ fill ∷ []))
+      → PutAt z 68 (c .id) s w → w ≡ tallyOver c fill x
+  unfolding tallyOver flags counts
+  tally-put {y = y} {y₁ = y₁} {z = z} p o q r =
+      let a : y ≡ over x 1 front = puts x 1 front (omega (arith, h)) p .bytes in
+      let l : length y ≡ packedBytes = ap length a ∙ length-over x 1 front (omega (arith, h)) ∙ h in
+      let j : length y₁ ≡ packedBytes = ap length o ∙ length-over y 8 (little 4 (c .told)) (omega (arith, l, little-length 4 (c .told))) ∙ l in
+      let m : length z ≡ packedBytes = ap length q ∙ length-over y₁ 20 (eights (counts c fill)) (omega (arith, j, counts-length c fill)) ∙ j in
+      let b = puts z 68 (c .id) (omega (arith, m, i)) r .bytes in
+      rw (q, o, a, letter-byte (c .letter)) at b
+
+-- bytes in eight parts
+record Parted (x m f d o r n i h : List ℕ) : Type 0 where
+  is : x ≡ m ++ f ++ d ++ o ++ r ++ n ++ i ++ h
   mark : length m ≡ 1
   flags : length f ≡ 3
-  days : length d ≡ 16
+  day : length d ≡ 4
+  told : length o ≡ 4
+  room : length r ≡ 8
   counts : length n ≡ 48
   id : length i ≡ 25
-  held : length h ≡ 251
+  held : length h ≡ longest
 
-module _ {x m f d n i h : List ℕ} (z : Parted x m f d n i h) where
+module _ {x m f d o r n i h : List ℕ} (z : Parted x m f d o r n i h) where
   -- mark, day and room
-  days-over : (m′ d′ : List ℕ) → length m′ ≡ 1 → length d′ ≡ 16 → Parted (over (over x 0 m′) 4 d′) m′ f d′ n i h
-  days-over m′ d′ p q =
+  days-over : (m′ d′ r′ : List ℕ) → length m′ ≡ 1 → length d′ ≡ 4 → length r′ ≡ 8
+      → Parted (over (over (over x 0 m′) 4 d′) 12 r′) m′ f d′ o r′ n i h
+  days-over m′ d′ r′ p q k =
       let y = over x 0 m′ in
-      let g = f ++ d ++ n ++ i ++ h in
+      let w = over y 4 d′ in
+      let g = f ++ d ++ o ++ r ++ n ++ i ++ h in
       let a : y ≡ [] ++ m′ ++ g = over-part x [] m g m′ 0 (z .is ∙ simp append-assoc) refl (z .mark ∙ sym p) in
-      let b : over y 4 d′ ≡ m′ ++ f ++ d′ ++ (n ++ i ++ h) =
-      over-part y (m′ ++ f) d (n ++ i ++ h) d′ 4 (a ∙ simp append-assoc) (simp (length-append, p, z .flags)) (z .days ∙ sym q) in
-      record { is = b ∙ simp append-assoc; mark = p; flags = z .flags; days = q; counts = z .counts; id = z .id; held = z .held }
+      let b : w ≡ m′ ++ f ++ d′ ++ (o ++ r ++ n ++ i ++ h) =
+      over-part y (m′ ++ f) d (o ++ r ++ n ++ i ++ h) d′ 4 (a ∙ simp append-assoc) (simp (length-append, p, z .flags)) (z .day ∙ sym q) in
+      let e : over w 12 r′ ≡ m′ ++ f ++ d′ ++ o ++ r′ ++ (n ++ i ++ h) =
+      over-part w (m′ ++ f ++ d′ ++ o) r (n ++ i ++ h) r′ 12 (b ∙ simp append-assoc) (simp (length-append, p, z .flags, q, z .told)) (z .room ∙ sym k) in
+      record {
+        is = e ∙ simp append-assoc;
+        mark = p;
+        flags = z .flags;
+        day = q;
+        told = z .told;
+        room = k;
+        counts = z .counts;
+        id = z .id;
+        held = z .held;
+      }
 
-  tally-over : (c : Tally) (fill : ℕ) → length (c .id) ≡ 25 → Parted (tallyOver c fill x) m (flags c) d (eights (counts c fill)) (c .id) h
+  tally-over : (c : Tally) (fill : ℕ) → length (c .id) ≡ 25
+      → Parted (tallyOver c fill x) m (flags c) d (little 4 (c .told)) r (eights (counts c fill)) (c .id) h
   unfolding tallyOver
   tally-over c fill l =
       let F = flags c in
+      let T = little 4 (c .told) in
       let N = eights (counts c fill) in
       let p = flags-length c in
+      let t = little-length 4 (c .told) in
       let q = counts-length c fill in
       let y = over x 1 F in
-      let w = over y 20 N in
-      let a : y ≡ m ++ F ++ (d ++ n ++ i ++ h) = over-part x m f (d ++ n ++ i ++ h) F 1 (z .is ∙ simp append-assoc) (z .mark) (z .flags ∙ sym p) in
-      let b : w ≡ m ++ F ++ d ++ N ++ (i ++ h) =
-      over-part y (m ++ F ++ d) n (i ++ h) N 20 (a ∙ simp append-assoc) (simp (length-append, z .mark, p, z .days)) (z .counts ∙ sym q) in
-      let g : over w 68 (c .id) ≡ m ++ F ++ d ++ N ++ c .id ++ h =
-      over-part w (m ++ F ++ d ++ N) i h (c .id) 68 (b ∙ simp append-assoc) (simp (length-append, z .mark, p, z .days, q)) (z .id ∙ sym l) in
-      record { is = g; mark = z .mark; flags = p; days = z .days; counts = q; id = l; held = z .held }
+      let v = over y 8 T in
+      let w = over v 20 N in
+      let a : y ≡ m ++ F ++ (d ++ o ++ r ++ n ++ i ++ h) =
+      over-part x m f (d ++ o ++ r ++ n ++ i ++ h) F 1 (z .is ∙ simp append-assoc) (z .mark) (z .flags ∙ sym p) in
+      let e : v ≡ m ++ F ++ d ++ T ++ (r ++ n ++ i ++ h) =
+      over-part y (m ++ F ++ d) o (r ++ n ++ i ++ h) T 8 (a ∙ simp append-assoc) (simp (length-append, z .mark, p, z .day)) (z .told ∙ sym t) in
+      let b : w ≡ m ++ F ++ d ++ T ++ r ++ N ++ (i ++ h) =
+      over-part v (m ++ F ++ d ++ T ++ r) n (i ++ h) N 20 (e ∙ simp append-assoc) (simp (length-append, z .mark, p, z .day, t, z .room))
+      (z .counts ∙ sym q) in
+      let g : over w 68 (c .id) ≡ m ++ F ++ d ++ T ++ r ++ N ++ c .id ++ h =
+      over-part w (m ++ F ++ d ++ T ++ r ++ N) i h (c .id) 68 (b ∙ simp append-assoc) (simp (length-append, z .mark, p, z .day, t, z .room, q))
+      (z .id ∙ sym l) in
+      record { is = g; mark = z .mark; flags = p; day = z .day; told = t; room = z .room; counts = q; id = l; held = z .held }
 
-  held-over : (h′ : List ℕ) → length h′ ≡ 251 → Parted (over x 93 h′) m f d n i h′
+  held-over : (h′ : List ℕ) → length h′ ≡ longest → Parted (over x 93 h′) m f d o r n i h′
   held-over h′ l =
-      let p = m ++ f ++ d ++ n ++ i in
-      let k : length p ≡ 93 = simp (length-append, z .mark, z .flags, z .days, z .counts, z .id) in
+      let p = m ++ f ++ d ++ o ++ r ++ n ++ i in
+      let k : length p ≡ 93 = simp (length-append, z .mark, z .flags, z .day, z .told, z .room, z .counts, z .id) in
       let b : over x 93 h′ ≡ p ++ h′ ++ [] = over-part x p h [] h′ 93 (z .is ∙ sym (append-nil (p ++ h))) k (z .held ∙ sym l) in
-      record { is = b ∙ append-nil (p ++ h′); mark = z .mark; flags = z .flags; days = z .days; counts = z .counts; id = z .id; held = l }
+      record {
+        is = b ∙ append-nil (p ++ h′);
+        mark = z .mark;
+        flags = z .flags;
+        day = z .day;
+        told = z .told;
+        room = z .room;
+        counts = z .counts;
+        id = z .id;
+        held = l;
+      }
 
--- any 344 bytes
-any : (x : List ℕ) → length x ≡ 344 → Parted x (take 1 x) (take 3 (drop 1 x)) (take 16 (drop 4 x)) (take 48 (drop 20 x)) (take 25 (drop 68 x)) (drop 93 x)
-any x h =
-    record {
-      is = rw (← (take-add 1 3 x), ← (take-add 4 16 x), ← (take-add 20 48 x), ← (take-add 68 25 x)) (sym (take-append-drop 93 x));
-      mark = length-take-le 1 x (omega arith);
-      flags = length-take-le 3 (drop 1 x) (omega (arith, length-drop 1 x));
-      days = length-take-le 16 (drop 4 x) (omega (arith, length-drop 4 x));
-      counts = length-take-le 48 (drop 20 x) (omega (arith, length-drop 20 x));
-      id = length-take-le 25 (drop 68 x) (omega (arith, length-drop 68 x));
-      held = omega (arith, length-drop 93 x);
-    }
+-- any bytes of that number
+module _ (x : List ℕ) (h : length x ≡ packedBytes) where
+  abbrev at : ℕ → ℕ → List ℕ
+  at n a = take n (drop a x)
+
+  at-length : (n a : ℕ) → a + n ≤ packedBytes → length (at n a) ≡ n
+  at-length n a k = length-take-le n (drop a x) (omega (arith, length-drop a x, h, k))
+
+  any : Parted x (take 1 x) (at 3 1) (at 4 4) (at 4 8) (at 8 12) (at 48 20) (at 25 68) (drop 93 x)
+  any =
+      record {
+        is = rw (← (take-add 1 3 x), ← (take-add 4 4 x), ← (take-add 8 4 x), ← (take-add 12 8 x), ← (take-add 20 48 x), ← (take-add 68 25 x))
+            (sym (take-append-drop 93 x));
+        mark = length-take-le 1 x (omega arith);
+        flags = at-length 3 1 (omega arith);
+        day = at-length 4 4 (omega arith);
+        told = at-length 4 8 (omega arith);
+        room = at-length 8 12 (omega arith);
+        counts = at-length 48 20 (omega arith);
+        id = at-length 25 68 (omega arith);
+        held = omega (arith, length-drop 93 x);
+      }
 
 -- those of a session
-regroup : (m f a b n i h : List ℕ) → m ++ f ++ (a ++ (b ++ n)) ++ i ++ h ≡ m ++ f ++ (a ++ (b ++ [])) ++ n ++ i ++ h
-regroup m f a b n i h = simp (append-nil, append-assoc)
+regroup : (m f d o r n i h : List ℕ) → m ++ f ++ d ++ o ++ (r ++ n) ++ i ++ h ≡ m ++ f ++ d ++ o ++ r ++ n ++ i ++ h
+regroup m f d o r n i h = simp append-assoc
 
-abbrev days : Session → List ℕ
-days s = eights (s .day ∷ s .room ∷ [])
+abbrev partsIn : Session → List ℕ
+partsIn s =
+    (1 ∷ [])
+    ++ flags (s .tally)
+    ++ little 4 (s .day)
+    ++ little 4 (s .tally .told)
+    ++ little 8 (s .room)
+    ++ eights (counts (s .tally) (s .fill))
+    ++ s .tally .id
+    ++ s .held
 
-in-parts : (s : Session) → bytesOf s ≡ (1 ∷ []) ++ flags (s .tally) ++ days s ++ eights (counts (s .tally) (s .fill)) ++ s .tally .id ++ s .held
+in-parts : (s : Session) → bytesOf s ≡ partsIn s
 unfolding bytesOf eights
-in-parts s = regroup (1 ∷ []) (flags (s .tally)) (little 8 (s .day)) (little 8 (s .room)) (eights (counts (s .tally) (s .fill))) (s .tally .id) (s .held)
+in-parts s =
+    regroup (1 ∷ []) (flags (s .tally)) (little 4 (s .day)) (little 4 (s .tally .told)) (little 8 (s .room)) (eights (counts (s .tally) (s .fill)))
+    (s .tally .id) (s .held)
 
-module _ (s : Session) (i : length (s .tally .id) ≡ 25) (j : length (s .held) ≡ 251) where
-  parts : Parted (bytesOf s) (1 ∷ []) (flags (s .tally)) (days s) (eights (counts (s .tally) (s .fill))) (s .tally .id) (s .held)
+module _ (s : Session) (i : length (s .tally .id) ≡ 25) (j : length (s .held) ≡ longest) where
+  abbrev c : Tally
+  c = s .tally
+
+  abbrev n : List ℕ
+  n = eights (counts c (s .fill))
+
+  parts : Parted (bytesOf s) (1 ∷ []) (flags c) (little 4 (s .day)) (little 4 (c .told)) (little 8 (s .room)) n (c .id) (s .held)
   parts =
       record {
         is = in-parts s;
         mark = refl;
-        flags = flags-length (s .tally);
-        days = eights-length (s .day ∷ s .room ∷ []);
-        counts = counts-length (s .tally) (s .fill);
+        flags = flags-length c;
+        day = little-length 4 (s .day);
+        told = little-length 4 (c .told);
+        room = little-length 8 (s .room);
+        counts = counts-length c (s .fill);
         id = i;
         held = j;
       }
 
-  pub bytes-length : length (bytesOf s) ≡ 344
-  bytes-length = ap length (in-parts s) ∙ simp (length-append, parts .flags, parts .days, parts .counts, i, j)
+  pub bytes-length : length (bytesOf s) ≡ packedBytes
+  bytes-length =
+      ap length (in-parts s) ∙ simp (length-append, parts .flags, parts .day, parts .told, parts .room, parts .counts, i, j)
 
   -- another tally, and other bytes held
-  pub steps : (c : Tally) (fill : ℕ) (h : List ℕ) → length (c .id) ≡ 25 → length h ≡ 251
+  pub steps : (c : Tally) (fill : ℕ) (h : List ℕ) → length (c .id) ≡ 25 → length h ≡ longest
       → tallyOver c fill (over (bytesOf s) 93 h) ≡ bytesOf (partsOf (s .day) (s .room) c fill h)
   steps c fill h l k = tally-over (held-over parts h k) c fill l .is ∙ sym (in-parts (partsOf (s .day) (s .room) c fill h))
 
-  -- all parts, over any 344 bytes
-  pub packs : (x : List ℕ) → length x ≡ 344 → over (tallyOver (s .tally) (s .fill) (over (over x 0 (1 ∷ [])) 4 (days s))) 93 (s .held) ≡ bytesOf s
-  packs x h = held-over (tally-over (days-over (any x h) (1 ∷ []) (days s) refl (parts .days)) (s .tally) (s .fill) i) (s .held) j .is ∙ sym (in-parts s)
+  -- all parts, over any bytes of that number
+  pub packs : (x : List ℕ) → length x ≡ packedBytes
+      → over (tallyOver c (s .fill) (over (over (over x 0 (1 ∷ [])) 4 (little 4 (s .day))) 12 (little 8 (s .room)))) 93 (s .held) ≡ bytesOf s
+  packs x h =
+      let d = days-over (any x h) (1 ∷ []) (little 4 (s .day)) (little 8 (s .room)) refl (parts .day) (parts .room) in
+      held-over (tally-over d c (s .fill) i) (s .held) j .is ∙ sym (in-parts s)

@@ -7,13 +7,17 @@ use mathlib.Core.List.{List, [], _∷_, _++_}
 use lib.ListN.{length, getD, take, drop}
 use lib.Dec.{leb, eqb}
 use Rattle.base.specs.Bytes.{over}
-use Rattle.judge.specs.declared.Totals.{Totals}
-use Rattle.judge.specs.declared.Tally.{Tally}
+use Rattle.frame.specs.declared.Totals.{Totals}
+use Rattle.frame.specs.declared.Tally.{Tally}
 use Rattle.judge.specs.declared.Session.{Session}
-use Rattle.judge.specs.declared.Outcome.{Outcome}
+use Rattle.lent.specs.declared.Outcome.{Outcome}
 use Rattle.judge.specs.declared.Step.{Step}
-use Rattle.judge.specs.Session.{closedSession, taken, tableTaken, Stepped}
-use Rattle.judge.specs.Feeding.{by}
+use Rattle.judge.specs.Session.{longest, closedSession, taken, tableTaken, Stepped}
+use Rattle.lent.specs.Lent.{Lists, by}
+
+-- a packed session has so many bytes
+abbrev pub packedBytes : ℕ
+packedBytes = 93 + longest
 
 -- a number in k bytes, the least first
 unfoldable pub little : ℕ → ℕ → List ℕ
@@ -30,13 +34,13 @@ unfoldable pub eights : List ℕ → List ℕ
 eights [] = []
 eights (n ∷ ns) = little 8 n ++ eights ns
 
--- the number in the eight bytes at a place, counted from 0
-abbrev pub valueAt : ℕ → List ℕ → ℕ
-valueAt at x = value (take 8 (drop at x))
+-- the number in w bytes at a place, counted from 0
+abbrev pub valueAt : ℕ → ℕ → List ℕ → ℕ
+valueAt w at x = value (take w (drop at x))
 
 -- a count and a sum from a place on
 abbrev pub totalsAt : ℕ → List ℕ → Totals
-totalsAt at x = record { count = valueAt at x; sum = valueAt (at + 8) x }
+totalsAt at x = record { count = valueAt 8 at x; sum = valueAt 8 (at + 8) x }
 
 -- phase, letter and code, a byte each
 unfoldable pub flags : Tally → List ℕ
@@ -57,50 +61,60 @@ counts c fill =
 unfoldable pub bytesOf : Session → List ℕ
 bytesOf s =
     1 ∷ flags (s .tally)  -- 0-3
-    ++ eights (s .day ∷ s .room ∷ counts (s .tally) (s .fill))  -- 4-67
+    ++ little 4 (s .day)  -- 4-7
+    ++ little 4 (s .tally .told)  -- 8-11
+    ++ eights (s .room ∷ counts (s .tally) (s .fill))  -- 12-67
     ++ s .tally .id  -- 68-92
-    ++ s .held  -- 93-343
+    ++ s .held  -- from 93 on
 
--- 344 bytes with the mark, a letter of 0 or 1, and a day of 32 bits
+-- as many bytes, with the mark, and a letter of 0 or 1
 unfoldable pub isPacked : List ℕ → Bool
-isPacked x = eqb (length x) 344 && (eqb (getD x 0 0) 1 && (leb (getD x 2 0) 1 && leb (valueAt 4 x) 4294967295))
+isPacked x = eqb (length x) packedBytes && (eqb (getD x 0 0) 1 && leb (getD x 2 0) 1)
 
 -- the tally and the session that such bytes stand for
 unfoldable pub tallyIn : List ℕ → Tally
 tallyIn x =
     record {
       phase = getD x 1 0;
+      told = valueAt 4 8 x;
       letter = eqb (getD x 2 0) 1;
       code = getD x 3 0;
       accepted = totalsAt 20 x;
       refused = totalsAt 36 x;
-      zeros = valueAt 52 x;
+      zeros = valueAt 8 52 x;
       id = take 25 (drop 68 x);
     }
 
 unfoldable pub sessionIn : List ℕ → Session
 sessionIn x =
-    record { day = valueAt 4 x; room = valueAt 12 x; tally = tallyIn x; fill = valueAt 60 x; held = take 251 (drop 93 x) }
+    record {
+      day = valueAt 4 4 x;
+      room = valueAt 8 12 x;
+      tally = tallyIn x;
+      fill = valueAt 8 60 x;
+      held = take longest (drop 93 x);
+    }
 
 -- any other bytes stand for the closed session
 unfoldable pub unpacked : List ℕ → Session
 unpacked x = cond (isPacked x) (sessionIn x) closedSession
 
--- packing, into a buffer of 344 bytes and no other; the session can be had again
+-- packing, into a buffer of so many bytes and no other; the session can be had again
 pub record PackedAs (s : Session) (x : List ℕ) (r : Bool) (x′ : List ℕ) : Type 0 where
-  pub answer : r ≡ eqb (length x) 344
-  pub bytes : x′ ≡ cond (eqb (length x) 344) (bytesOf s) x
+  pub answer : r ≡ eqb (length x) packedBytes
+  pub bytes : x′ ≡ cond (eqb (length x) packedBytes) (bytesOf s) x
   pub back : unpacked (bytesOf s) ≡ s
 
 -- taking a piece in place: the outcome, every byte of the session and of the table; the bytes then stand for the session to use next
-pub record TakenIn (x p banks known t : List ℕ) (r : Outcome) (x′ t′ : List ℕ) : Type 0 where
-  pub outcome : r ≡ taken (unpacked x) p banks known t .outcome
-  pub session : x′ ≡ by r (bytesOf (taken (unpacked x) p banks known t .next)) (λ f. x)
-  pub table : t′ ≡ tableTaken (unpacked x) p banks known t
-  pub holds : unpacked x′ ≡ taken (unpacked x) p banks known t .next
+pub record TakenIn (x p : List ℕ) (l : Lists) (t : List ℕ) (r : Outcome) (x′ t′ : List ℕ) : Type 0 where
+  pub outcome : r ≡ taken (unpacked x) p l t .outcome
+  pub session : x′ ≡ by r (bytesOf (taken (unpacked x) p l t .next)) (λ f. x)
+  pub table : t′ ≡ tableTaken (unpacked x) p l t
+  pub holds : unpacked x′ ≡ taken (unpacked x) p l t .next
 
 -- every number fits the type of its field, as in each tally and each session that code holds
 pub record TallyFits (c : Tally) (held : ℕ) : Type 0 where
+  pub told : c .told < 4294967296
   pub acceptedCount : c .accepted .count < 18446744073709551616
   pub acceptedSum : c .accepted .sum < 18446744073709551616
   pub refusedCount : c .refused .count < 18446744073709551616
@@ -113,18 +127,18 @@ pub record Fits (s : Session) : Type 0 where
   pub day : s .day < 4294967296
   pub room : s .room < 18446744073709551616
   pub tally : TallyFits (s .tally) (s .fill)
-  pub held : length (s .held) ≡ 251
+  pub held : length (s .held) ≡ longest
 
 -- a tally and how many bytes are held, over their places
 unfoldable pub tallyOver : Tally → ℕ → List ℕ → List ℕ
-tallyOver c fill x = over (over (over x 1 (flags c)) 20 (eights (counts c fill))) 68 (c .id)
+tallyOver c fill x = over (over (over (over x 1 (flags c)) 8 (little 4 (c .told))) 20 (eights (counts c fill))) 68 (c .id)
 
 pub record TallyPut (c : Tally) (fill : ℕ) (x x′ : List ℕ) : Type 0 where
   pub bytes : x′ ≡ tallyOver c fill x
   pub fits : TallyFits c fill
 
 -- a piece is taken with the bytes held where they stand; the bytes before them stay
-pub record SteppedIn (x p banks known t : List ℕ) (r : Step) (x′ t′ : List ℕ) : Type 0 where
+pub record SteppedIn (x p : List ℕ) (l : Lists) (t : List ℕ) (r : Step) (x′ t′ : List ℕ) : Type 0 where
   pub stays : x′ ≡ over x 93 (drop 93 x′)
-  pub long : length x′ ≡ 344
-  pub held : Stepped (valueAt 4 x) (valueAt 12 x) (tallyIn x) (valueAt 60 x) (take 251 (drop 93 x)) p banks known t r (drop 93 x′) t′
+  pub long : length x′ ≡ packedBytes
+  pub held : Stepped (valueAt 4 4 x) (valueAt 8 12 x) (tallyIn x) (valueAt 8 60 x) (take longest (drop 93 x)) p l t r (drop 93 x′) t′

@@ -3,7 +3,10 @@ ghost use mathlib.Core.Path.{_≡_};
 ghost use Prim.Native.Nat.{_+_, _*_, _≤_};
 ghost use lib.ListN.{length, take, drop};
 ghost use Rattle.base.specs.Bytes.{over};
+ghost use Rattle.lent.specs.Lent.{listed};
+ghost use Rattle.judge.specs.Session.{longest};
 ghost use Rattle.packed.specs.Packed.{
+  packedBytes,
   little,
   valueAt,
   totalsAt,
@@ -17,24 +20,24 @@ ghost use Rattle.packed.specs.Packed.{
   TallyPut,
   SteppedIn,
 };
-use findings::refusal::Refusal;
-use judge::Outcome;
+use frame::Tally;
+use frame::Totals;
 use judge::Session;
 use judge::Step;
-use judge::Tally;
-use judge::Totals;
+use lent::Outcome;
+use lent::Refusal;
 
-// The bytes of a packed session.
-pub const BYTES: usize = 344;
+// The bytes of a packed session: the bytes held come last.
+pub const BYTES: usize = 93 + frame::ITEM_ENDED;
 
-// A number in eight bytes at a place, the least first.
-fn put_number(out: &mut [u8], at: usize, n: u64)
-    requires { ⌜ at + 8 ≤ length (now out) ⌝ }
-    ensures { λ _. ⌜ now (out .exit) ≡ over (now (out .entry)) at (little 8 n) ⌝ }
+// A number in w bytes at a place, the least first.
+fn put_little(out: &mut [u8], at: usize, w: usize, n: u64)
+    requires { ⌜ at + w ≤ length (now out) ⌝ }
+    ensures { λ _. ⌜ now (out .exit) ≡ over (now (out .entry)) at (little w n) ⌝ }
 {
     let mut left = n;
     let mut i = 0;
-    while i < 8 {
+    while i < w {
         let to = at + i;
         out[to] = (left % 256) as u8;
         left = left / 256;
@@ -42,41 +45,34 @@ fn put_number(out: &mut [u8], at: usize, n: u64)
     }
 }
 
-// Numbers, one after the other from a place on.
-fn put_numbers(out: &mut [u8], at: usize, numbers: &[u64])
+// Numbers in eight bytes each, one after the other from a place on.
+fn put_eights(out: &mut [u8], at: usize, numbers: &[u64])
     requires { ⌜ at + length (now numbers) * 8 ≤ length (now out) ⌝ }
     ensures { λ _. ⌜ now (out .exit) ≡ over (now (out .entry)) at (eights (now (numbers .entry))) ⌝ }
 {
     let mut i = 0;
     while i < numbers.len() {
-        put_number(out, at + i * 8, numbers[i]);
+        put_little(out, at + i * 8, 8, numbers[i]);
         i += 1;
     }
 }
 
-// Bytes, at a place.
-fn put_bytes(out: &mut [u8], at: usize, s: &[u8])
-    requires { ⌜ at + length (now s) ≤ length (now out) ⌝ }
-    ensures { λ _. ⌜ now (out .exit) ≡ over (now (out .entry)) at (now (s .entry)) ⌝ }
-{
-    text::put(&mut out[at..], s);
-}
-
 // A tally and how many bytes are held, in their places.
 fn put_tally(t: Tally, fill: usize, out: &mut [u8])
-    requires { ⌜ length (now out) ≡ 344 ⌝ }
+    requires { ⌜ length (now out) ≡ packedBytes ⌝ }
     ensures { λ _. ⌜ TallyPut t fill (now (out .entry)) (now (out .exit)) ⌝ }
 {
     let a = t.accepted;
     let r = t.refused;
     let id = t.id;
-    put_bytes(out, 1, &[t.phase, t.letter as u8, t.code]);
+    text::put_at(out, 1, &[t.phase, t.letter as u8, t.code]);
+    put_little(out, 8, 4, t.told as u64);
     let numbers = [a.count, a.sum, r.count, r.sum, t.zeros, fill as u64];
-    put_numbers(out, 20, &numbers);
-    put_bytes(out, 68, &id);
+    put_eights(out, 20, &numbers);
+    text::put_at(out, 68, &id);
 }
 
-// The bytes of a session, in place of all that is lent. Where that isn't 344 bytes, the answer is false and nothing is written.
+// The bytes of a session, in place of all that is lent. Where that has another size, the answer is false and nothing is written.
 pub fn pack(s: Session, out: &mut [u8]) -> bool
     ensures { λ r. ⌜ PackedAs s (now (out .entry)) r (now (out .exit)) ⌝ }
 {
@@ -85,20 +81,21 @@ pub fn pack(s: Session, out: &mut [u8]) -> bool
     }
     let t = s.tally;
     let held = s.held;
-    put_bytes(out, 0, &[1]);
-    put_numbers(out, 4, &[s.day as u64, s.room as u64]);
+    text::put_at(out, 0, &[1]);
+    put_little(out, 4, 4, s.day as u64);
+    put_little(out, 12, 8, s.room as u64);
     put_tally(t, s.fill, out);
-    put_bytes(out, 93, &held);
+    text::put_at(out, 93, &held);
     true
 }
 
-// The number in eight bytes at a place.
-fn number_at(x: &[u8], at: usize) -> u64
-    requires { ⌜ at + 8 ≤ length (now x) ⌝ }
-    ensures { λ r. ⌜ r ≡ valueAt at (now (x .entry)) ⌝ }
+// The number in w bytes at a place.
+fn number_at(x: &[u8], at: usize, w: usize) -> u64
+    requires { ⌜ (at + w ≤ length (now x)) × (w ≤ 8) ⌝ }
+    ensures { λ r. ⌜ r ≡ valueAt w at (now (x .entry)) ⌝ }
 {
     let mut n: u64 = 0;
-    let mut i = at + 8;
+    let mut i = at + w;
     while i > at {
         i -= 1;
         n = n * 256 + x[i] as u64;
@@ -106,19 +103,19 @@ fn number_at(x: &[u8], at: usize) -> u64
     n
 }
 
-// The bytes are those of a session: their number, the mark, a letter that is 0 or 1, a day of 32 bits.
+// The bytes are those of a session: their number, the mark, a letter that is 0 or 1.
 fn is_packed(x: &[u8]) -> bool
     ensures { λ r. ⌜ r ≡ isPacked (now (x .entry)) ⌝ }
 {
     if x.len() != BYTES {
         return false;
     }
-    (x[0] == 1) & ((x[2] <= 1) & (number_at(x, 4) <= 4294967295))
+    (x[0] == 1) & (x[2] <= 1)
 }
 
 // The 25 bytes of the identifier.
 fn id_in(x: &[u8]) -> [u8; 25]
-    requires { ⌜ length (now x) ≡ 344 ⌝ }
+    requires { ⌜ length (now x) ≡ packedBytes ⌝ }
     ensures { λ r. ⌜ r ≡ take 25 (drop 68 (now (x .entry))) ⌝ }
 {
     let mut id = [0u8; 25];
@@ -130,14 +127,14 @@ fn id_in(x: &[u8]) -> [u8; 25]
     id
 }
 
-// The 251 bytes held.
-fn held_in(x: &[u8]) -> [u8; 251]
-    requires { ⌜ length (now x) ≡ 344 ⌝ }
-    ensures { λ r. ⌜ r ≡ take 251 (drop 93 (now (x .entry))) ⌝ }
+// The bytes held.
+fn held_in(x: &[u8]) -> [u8; frame::ITEM_ENDED]
+    requires { ⌜ length (now x) ≡ packedBytes ⌝ }
+    ensures { λ r. ⌜ r ≡ take longest (drop 93 (now (x .entry))) ⌝ }
 {
-    let mut held = [0u8; 251];
+    let mut held = [0u8; frame::ITEM_ENDED];
     let mut i = 0;
-    while i < 251 {
+    while i < frame::ITEM_ENDED {
         held[i] = x[93 + i];
         i += 1;
     }
@@ -150,14 +147,14 @@ fn totals_at(x: &[u8], at: usize) -> Totals
     ensures { λ r. ⌜ r ≡ totalsAt at (now (x .entry)) ⌝ }
 {
     Totals {
-        count: number_at(x, at),
-        sum: number_at(x, at + 8),
+        count: number_at(x, at, 8),
+        sum: number_at(x, at + 8, 8),
     }
 }
 
 // The tally that bytes stand for.
 fn tally_in(x: &[u8]) -> Tally
-    requires { ⌜ length (now x) ≡ 344 ⌝ }
+    requires { ⌜ length (now x) ≡ packedBytes ⌝ }
     ensures { λ r. ⌜ r ≡ tallyIn (now (x .entry)) ⌝ }
 {
     let accepted = totals_at(x, 20);
@@ -165,19 +162,19 @@ fn tally_in(x: &[u8]) -> Tally
     let id = id_in(x);
     Tally {
         phase: x[1],
+        told: number_at(x, 8, 4) as u32,
         letter: x[2] == 1,
         code: x[3],
         accepted: accepted,
         refused: refused,
-        zeros: number_at(x, 52),
+        zeros: number_at(x, 52, 8),
         id: id,
     }
 }
 
 // The session that bytes stand for. It reads the tally itself: with one caller `tally_in` is compiled in line (docs/FIGURES.md).
 fn session_in(x: &[u8]) -> Session
-    requires { ⌜ length (now x) ≡ 344 ⌝ }
-    requires { ⌜ valueAt 4 (now x) ≤ 4294967295 ⌝ }
+    requires { ⌜ length (now x) ≡ packedBytes ⌝ }
     ensures { λ r. ⌜ r ≡ sessionIn (now (x .entry)) ⌝ }
 {
     let accepted = totals_at(x, 20);
@@ -186,18 +183,19 @@ fn session_in(x: &[u8]) -> Session
     let held = held_in(x);
     let tally = Tally {
         phase: x[1],
+        told: number_at(x, 8, 4) as u32,
         letter: x[2] == 1,
         code: x[3],
         accepted: accepted,
         refused: refused,
-        zeros: number_at(x, 52),
+        zeros: number_at(x, 52, 8),
         id: id,
     };
     Session {
-        day: number_at(x, 4) as u32,
-        room: number_at(x, 12) as usize,
+        day: number_at(x, 4, 4) as u32,
+        room: number_at(x, 12, 8) as usize,
         tally: tally,
-        fill: number_at(x, 60) as usize,
+        fill: number_at(x, 60, 8) as usize,
         held: held,
     }
 }
@@ -217,14 +215,14 @@ pub fn unpack(x: &[u8]) -> Session
 
 // The session in the bytes takes a piece. The bytes held are worked on where they stand; nothing else of it is written.
 fn step_in(session: &mut [u8], bytes: &[u8], banks: &[u32], known: &[u8], table: &mut [u8]) -> Step
-    requires { ⌜ length (now session) ≡ 344 ⌝ }
-    requires { ⌜ valueAt 4 (now session) ≤ 4294967295 ⌝ }
-    ensures { λ r. ⌜ SteppedIn (now (session .entry)) (now (bytes .entry)) (now (banks .entry)) (now (known .entry)) (now (table .entry)) r (now (session .exit)) (now (table .exit)) ⌝ }
+    requires { ⌜ length (now session) ≡ packedBytes ⌝ }
+    ensures { λ r. ⌜ SteppedIn (now (session .entry)) (now (bytes .entry)) (listed (now (banks .entry)) (now (known .entry))) (now (table .entry))
+        r (now (session .exit)) (now (table .exit)) ⌝ }
 {
-    let day = number_at(session, 4) as u32;
-    let room = number_at(session, 12) as usize;
+    let day = number_at(session, 4, 4) as u32;
+    let room = number_at(session, 12, 8) as usize;
     let tally = tally_in(session);
-    let fill = number_at(session, 60) as usize;
+    let fill = number_at(session, 60, 8) as usize;
     let held = &mut session[93..];
     judge::take_lent(day, room, tally, fill, held, bytes, banks, known, table)
 }
@@ -237,7 +235,8 @@ pub fn take(
     known: &[u8],
     table: &mut [u8],
 ) -> Outcome
-    ensures { λ r. ⌜ TakenIn (now (session .entry)) (now (bytes .entry)) (now (banks .entry)) (now (known .entry)) (now (table .entry)) r (now (session .exit)) (now (table .exit)) ⌝ }
+    ensures { λ r. ⌜ TakenIn (now (session .entry)) (now (bytes .entry)) (listed (now (banks .entry)) (now (known .entry))) (now (table .entry))
+        r (now (session .exit)) (now (table .exit)) ⌝ }
 {
     if !is_packed(session) {
         return Outcome::Refused(Refusal::Session);

@@ -2,35 +2,22 @@
 ghost use Prim.Native.Nat.{_≤_};
 ghost use lib.ListN.{length};
 ghost use Rattle.io.specs.Counts.{Counts};
-use findings::refusal::Refusal;
-use judge::Outcome;
+use console::refuse;
+use console::say;
+use frame::Status;
+use judge::Session;
+use lent::Outcome;
 use libc::STDERR_FILENO;
 use libc::STDIN_FILENO;
-use libc::STDOUT_FILENO;
-use status::Status;
 
-// The most references that are held.
-const REFERENCES: usize = 10000;
+// The longest STATUS that is held: 104 bytes of head and foot, and 65 for each of as many references as a table has codes.
+const STATUS: usize = 104 + 65 * Session::MOST;
 
-// The longest STATUS, and one byte more, so that a longer one shows.
-const MOST: usize = 104 + 65 * REFERENCES;
-
-const SPACE: usize = MOST + 1;
+// One byte more, so that a longer one shows.
+const SPACE: usize = STATUS + 1;
 
 // Room for the lines of the head and foot, under 400 bytes, and for 15 bytes a reference.
-const TEXT: usize = 400 + 15 * REFERENCES;
-
-// A line on standard error.
-fn say(line: &[u8]) {
-    io::write_all(STDERR_FILENO, line);
-}
-
-// The line of a refusal, on standard error.
-fn refuse(r: Refusal) {
-    let mut line = [0u8; 32];
-    let n = lines::slip::put_refusal(&mut line, r);
-    say(&line[..n]);
-}
+const TEXT: usize = 400 + 15 * Session::MOST;
 
 // The references' lines, from a place of the output on; the place after them.
 fn put_items(out: &mut [u8], from: usize, codes: &[u8]) -> usize
@@ -52,27 +39,36 @@ fn print(s: Status, codes: &[u8]) {
     let mut out = [0u8; TEXT];
     let n = lines::facts::put_status(&mut out, s);
     let end = put_items(&mut out, n, codes);
-    io::write_all(STDOUT_FILENO, &out[..end]);
+    console::put(&out[..end]);
 }
 
 // The STATUS is read, and printed or refused.
 fn read(bytes: &[u8]) {
-    let mut codes = [0u8; REFERENCES];
+    let mut codes = [0u8; Session::MOST];
     let r = reading::read_status(bytes, &mut codes);
     let o = r.outcome;
     let s = r.status;
     let n = s.references;
     match o {
-        Outcome::Refused(r) => refuse(r),
+        Outcome::Refused(r) => refuse(STDERR_FILENO, r),
         Outcome::Done => print(s, &codes[..n]),
     }
+}
+
+// Of a longer one nothing is read.
+fn too_long() {
+    say(b"readback: over ");
+    io::print_decimal(STDERR_FILENO, STATUS as u64);
+    say(b" bytes, a STATUS with more than ");
+    io::print_decimal(STDERR_FILENO, Session::MOST as u64);
+    say(b" references isn't read\n");
 }
 
 // The STATUS is read into the space.
 fn answer(space: &mut [u8]) {
     let n = io::read_full(STDIN_FILENO, space);
-    if n > MOST {
-        say(b"readback: over 650104 bytes, a STATUS with more than 10000 references isn't read\n");
+    if n > STATUS {
+        too_long();
         return;
     }
     read(&space[..n]);

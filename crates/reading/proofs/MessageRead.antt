@@ -11,14 +11,43 @@ use lib.Seq.{take-at, drop-at}
 use borrow.Author.Tests.{le-leb, eq-eqb}
 use Rattle.base.specs.Bytes.{field}
 use Rattle.digits.specs.Digits.{numberOf}
-use Rattle.status.specs.declared.Status.{Status}
+use Rattle.judge.specs.Session.{most}
+use Rattle.frame.specs.declared.Status.{Status}
 use Rattle.status.specs.Records.{headRecord, reference, references, footRecord, written, isAddress}
 use Rattle.fields.specs.Fields.{isDuplicate}
 use Rattle.status.specs.Writing.{Writable}
-use Rattle.reading.specs.Reading.{countOf, partsOf, headIn, referencesIn, footIn, headRight, referencesRight, footRight, codesIn, statusIn, countsRight, isStatus}
+use Rattle.reading.specs.Reading.{
+  countOf,
+  partsOf,
+  headIn,
+  referencesIn,
+  footIn,
+  headRight,
+  referencesRight,
+  footRight,
+  codesIn,
+  statusIn,
+  countsRight,
+  isStatus,
+}
 use Rattle.status.proofs.Lengths.{Items, head-length, reference-length, references-length, written-length}
 use Rattle.status.proofs.Bounds.{Codes}
-use Rattle.reading.proofs.RecordsRead.{head-duplicate, head-id, head-date, head-number, head-time, head-code, head-right, reference-code, reference-right, foot-accepted, foot-accepted-sum, foot-refused, foot-refused-sum, foot-right}
+use Rattle.reading.proofs.RecordsRead.{
+  head-duplicate,
+  head-id,
+  head-date,
+  head-number,
+  head-time,
+  head-code,
+  head-right,
+  reference-code,
+  reference-right,
+  foot-accepted,
+  foot-accepted-sum,
+  foot-refused,
+  foot-refused-sum,
+  foot-right,
+}
 
 -- the references one by one
 abbrev listed : ℕ → List ℕ → List (List ℕ) → List (List ℕ)
@@ -64,7 +93,7 @@ pub record Readable (s : Status) (cs : List ℕ) : Type 0 where
   pub duplicate : isDuplicate (s .duplicate) ≡ true
   pub address : isAddress (s .id) ≡ true
   pub references : s .references ≡ length cs
-  pub most : length cs ≤ 10000
+  pub most : length cs ≤ most
   pub codes : Codes cs
   pub counts : countsRight s cs ≡ true
 
@@ -138,7 +167,8 @@ module _ (s : Status) (cs : List ℕ) (rs : List (List ℕ)) (k : Readable s cs)
       let q : (length x - 104) % 65 ≡ 0 = rw whole-length (omega arith) in
       let r : headRight (headRecord s ++ []) ≡ true = head-right s (k .long) [] (k .duplicate) (k .address) in
       let m : 1 + length cs ≤ 10 ^ 6 = omega (arith, k .most) in
-      all-six (leb 104 (length x)) (eqb ((length x - 104) % 65) 0) (headRight (headIn x)) (referencesRight 1 (referencesIn x)) (footRight (footIn x)) (countsRight (statusIn x) (codesIn x))
+      all-six (leb 104 (length x)) (eqb ((length x - 104) % 65) 0) (headRight (headIn x)) (referencesRight 1 (referencesIn x)) (footRight (footIn x))
+      (countsRight (statusIn x) (codesIn x))
       (le-leb 104 (length x) (omega (arith, whole-length)))
       (eq-eqb ((length x - 104) % 65) 0 q)
       (ap headRight (head-is ∙ sym (append-nil (headRecord s))) ∙ r)

@@ -3,7 +3,7 @@
 use mathlib.Core.Path.{_≡_, refl, ap, _∙_}
 use mathlib.Core.Bool.{true}
 use mathlib.Core.List.{List, [], _∷_, _++_, append-assoc, append-nil}
-use Prim.Native.Nat.{ℕ, _+_, _^_, _≤_, _<_}
+use Prim.Native.Nat.{ℕ, _^_, _≤_, _<_}
 use native.Mathlib.Omega.{arith}
 use lib.Dec.{lit≤}
 use lib.ListN.{length, getD, drop, replicate, length-append, length-drop}
@@ -12,7 +12,7 @@ use borrow.Author.Tests.{eq-eqb}
 use Rattle.base.specs.Bytes.{ascii, field}
 use Rattle.digits.specs.Digits.{isDigits, numberOf, figures}
 use Rattle.digits.proofs.Figures.{figures-length, figures-digits, read-back}
-use Rattle.status.specs.declared.Status.{Status}
+use Rattle.frame.specs.declared.Status.{Status}
 use Rattle.status.specs.Records.{headRecord, reference, footRecord, ending, isAddress}
 use Rattle.fields.specs.Fields.{isDuplicate}
 use Rattle.status.specs.Writing.{Writable}
@@ -93,7 +93,8 @@ module _ (s : Status) (h : length (s .id) ≡ 25) (y : List ℕ) where
   in-wide : x ≡ all wide ++ y
   unfolding headRecord
   in-wide =
-      eight-wide (ascii "01STATUS") (s .duplicate ∷ []) (s .id) (figures 8 (s .date)) (figures 4 (s .number)) (figures 6 (s .time)) (figures 2 (s .code)) ending y
+      eight-wide (ascii "01STATUS") (s .duplicate ∷ []) (s .id) (figures 8 (s .date)) (figures 4 (s .number)) (figures 6 (s .time)) (figures 2 (s .code)) ending
+      y
 
   head-digits : isDigits (field 35 54 x) ≡ true
   head-digits = ap isDigits (found x wide y in-wide 3) ∙ digits-four 8 4 6 2 (s .date) (s .number) (s .time) (s .code)

@@ -6,8 +6,8 @@ use Prim.Native.Nat.{ℕ, _+_, _-_, _%_}
 use lib.ListN.{length, take, drop}
 use lib.Dec.{leb, ltb, eqb}
 use Rattle.digits.specs.Digits.{numberOf}
-use Rattle.judge.specs.declared.Totals.{Totals}
-use Rattle.status.specs.declared.Status.{Status}
+use Rattle.frame.specs.declared.Totals.{Totals}
+use Rattle.frame.specs.declared.Status.{Status}
 use Rattle.reading.specs.declared.Referred.{Referred}
 use Rattle.reading.specs.Reading.{headIn, referencesIn, footIn, headRight, referencesRight, footRight, codesIn, zerosIn, statusIn, countsRight}
 

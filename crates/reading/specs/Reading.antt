@@ -2,19 +2,18 @@
 -- Assumes nothing.
 use Prim.Native.Nat.{ℕ, zero, suc, _+_, _-_, _*_, _/_, _%_}
 use mathlib.Core.Path.{_≡_}
-use mathlib.Core.Bool.{Bool, true, cond, not, _&&_}
+use mathlib.Core.Bool.{Bool, true, cond, _&&_}
 use mathlib.Core.List.{List, [], _∷_, map}
-use lib.ListN.{length, getD, take, drop, replicate}
+use lib.ListN.{length, getD, take, drop}
 use lib.Dec.{leb, ltb, eqb}
 use Rattle.base.specs.Bytes.{ascii, field, same, over}
 use Rattle.digits.specs.Digits.{isDigits, numberOf}
 use Rattle.frame.specs.Records.{noId, ended}
-use Rattle.judge.specs.Session.{none}
-use Rattle.judge.specs.declared.Outcome.{Outcome}
-use Rattle.judge.specs.declared.Outcome.the-variants.{Done, Refused}
-use Rattle.findings.specs.declared.refusal.Refusal.{Refusal}
-use Rattle.findings.specs.declared.refusal.Refusal.the-variants.{Room, Malformed}
-use Rattle.status.specs.declared.Status.{Status}
+use Rattle.frame.specs.Verdict.{none}
+use Rattle.lent.specs.declared.Outcome.the-variants.{Done, Refused}
+use Rattle.lent.specs.declared.Refusal.{Refusal}
+use Rattle.lent.specs.declared.Refusal.the-variants.{Room, Malformed}
+use Rattle.frame.specs.declared.Status.{Status}
 use Rattle.reading.specs.declared.Read.{Read}
 use Rattle.status.specs.Records.{isAddress}
 use Rattle.fields.specs.Fields.{isDuplicate}

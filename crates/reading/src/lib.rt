@@ -17,10 +17,10 @@ ghost use Rattle.reading.specs.Reading.{
   ReadAs,
 };
 ghost use Rattle.reading.specs.Checking.{hasLengths, partsRight, referredOf, totalsAt, countsAre};
-use findings::refusal::Refusal;
-use judge::Outcome;
-use judge::Totals;
-use status::Status;
+use frame::Status;
+use frame::Totals;
+use lent::Outcome;
+use lent::Refusal;
 
 // What reading gives: zeros and spaces where it is refused.
 pub struct Read {

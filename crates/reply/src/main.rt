@@ -2,49 +2,24 @@
 // files `day`, `banks` and `known` of the folder where it runs. Refusals and wrong arguments go to standard error (01, Calls and their
 // answers; Examples).
 ghost use Prim.Native.Nat.{_≤_};
-ghost use Rattle.io.specs.Counts.{Counts};
+use console::put;
+use console::read_file;
+use console::refuse;
+use console::say;
 use files::Given;
-use findings::refusal::Refusal;
+use files::SPACE;
+use judge::Session;
 use libc::STDERR_FILENO;
 use libc::STDIN_FILENO;
-use libc::STDOUT_FILENO;
 use status::reply::Answer;
 use status::reply::Particulars;
 
-// One byte more than a file may have, so that a longer one shows.
-const SPACE: usize = files::MOST + 1;
+// A head, one item more than a reply is for, each with its ending, and a byte: what follows can't change the answer. With so many complete
+// items before a break it is refusal 6; otherwise a break or the foot stands before this, and so does a byte after the foot.
+const MESSAGE: usize = Session::HEAD + 2 + (Session::ITEM + 2) * (Session::MOST + 1) + 1;
 
-// A head, 10,001 items and a byte: what follows can't change the answer. With 10,001 complete items before a break it is refusal 6;
-// otherwise a break or the foot stands before this, and so does a byte after the foot.
-const MESSAGE: usize = 176 + 251 * 10001 + 1;
-
-// The longest reply: 10,000 references.
-const REPLY: usize = 104 + 65 * 10000;
-
-// A line on standard error.
-fn say(line: &[u8]) {
-    io::write_all(STDERR_FILENO, line);
-}
-
-// The line of a refusal, on standard error.
-fn refuse(r: Refusal) {
-    let mut line = [0u8; 32];
-    let n = lines::slip::put_refusal(&mut line, r);
-    say(&line[..n]);
-}
-
-// A file's bytes at the front of the space, and how many; none of a file that is missing or can't be read.
-fn read_file(path: &[u8], space: &mut [u8]) -> usize
-    ensures { λ r. ⌜ Counts r (now (space .exit)) ⌝ }
-{
-    let fd = os::open_read(path);
-    if fd < 0 {
-        return 0;
-    }
-    let n = io::read_full(fd, space);
-    libc::close(fd);
-    n
-}
+// The longest reply: 104 bytes of head and foot, and 65 for each of as many references as a table has codes.
+const REPLY: usize = 104 + 65 * Session::MOST;
 
 // The message is read, and the reply written.
 fn answer(
@@ -58,10 +33,8 @@ fn answer(
     let n = io::read_full(STDIN_FILENO, message);
     let a = status::reply::write(day, banks, known, &message[..n], p, out);
     match a {
-        Answer::Refused(r) => refuse(r),
-        Answer::Written(n) => {
-            io::write_all(STDOUT_FILENO, &out[..n]);
-        }
+        Answer::Refused(r) => refuse(STDERR_FILENO, r),
+        Answer::Written(n) => put(&out[..n]),
     }
 }
 
@@ -88,7 +61,7 @@ fn judged(day: u32, banks: &[u32], known: &[u8], p: Particulars) {
 fn given(day: &[u8], banks: &[u8], known: &[u8], p: Particulars) {
     let mut list = [0u32; files::BANKS];
     match files::read(day, banks, known, &mut list) {
-        Given::Refused(r) => refuse(r),
+        Given::Refused(r) => refuse(STDERR_FILENO, r),
         Given::Files { day, banks } => judged(day, &list[..banks], known, p),
     }
 }

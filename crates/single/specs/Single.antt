@@ -1,16 +1,16 @@
 -- The answer on a single head or item (01, Calls and their answers).
 -- Assumes nothing.
 use Prim.Native.Nat.{ℕ}
-use mathlib.Core.Bool.{Bool, cond}
+use mathlib.Core.Bool.{cond}
 use mathlib.Core.List.{List, [], _∷_, _++_}
 use lib.ListN.{length}
 use lib.Dec.{eqb}
 use Rattle.base.specs.Bytes.{field}
 use Rattle.calendar.specs.Calendar.{isDate}
-use Rattle.lists.specs.Banks.{isBankList}
-use Rattle.lists.specs.Known.{isKnownList}
+use Rattle.lent.specs.Lent.{Lent, listRefused, by}
+use Rattle.frame.specs.Records.{lengths}
 use Rattle.findings.specs.declared.Kind.{Kind}
-use Rattle.findings.specs.declared.refusal.Refusal.the-variants.{NotADay, BankList, KnownList, Malformed}
+use Rattle.lent.specs.declared.Refusal.the-variants.{NotADay, Malformed}
 use Rattle.findings.specs.declared.Answer.{Answer}
 use Rattle.findings.specs.declared.Answer.the-variants as named
 use Rattle.fields.specs.Fields.{letterFound}
@@ -44,14 +44,12 @@ unfoldable pub itemAnswer : List ℕ → ℕ → List ℕ → Answer
 itemAnswer banks k r = firstNamed (itemTexts r ++ itemRules banks k r)
 
 -- the answer: refusals 1, 2, 3 and 10 in this order; its length tells a head from an item
-unfoldable pub singleAnswer : ℕ → List ℕ → List ℕ → ℕ → List ℕ → Answer
-singleAnswer e banks known k r =
-    cond (isDate e)
-    (cond (isBankList banks)
-    (cond (isKnownList known)
-    (cond (eqb (length r) 174)
-    (headAnswer e banks known r)
-    (cond (eqb (length r) 249) (itemAnswer banks k r) (named.Refused Malformed)))
-    (named.Refused KnownList))
-    (named.Refused BankList))
+unfoldable pub singleAnswer : Lent → ℕ → List ℕ → Answer
+singleAnswer l k r =
+    cond (isDate (l .day))
+    (by (listRefused (l .lists))
+    (cond (eqb (length r) (lengths .head))
+    (headAnswer (l .day) (l .lists .banks) (l .lists .known) r)
+    (cond (eqb (length r) (lengths .item)) (itemAnswer (l .lists .banks) k r) (named.Refused Malformed)))
+    named.Refused)
     (named.Refused NotADay)

@@ -2,6 +2,8 @@
 ghost use mathlib.Core.Path.{_≡_};
 ghost use Prim.Native.Nat.{_+_, _*_, _≤_};
 ghost use lib.ListN.{length};
+ghost use Rattle.lent.specs.Lent.{lent};
+ghost use Rattle.frame.specs.Records.{lengths};
 ghost use Rattle.findings.specs.Findings.{kindNumber};
 ghost use Rattle.fields.specs.Fields.{letterFound};
 ghost use Rattle.findings.specs.Naming.{namedElse, firstNamed, namedOr};
@@ -15,8 +17,9 @@ use findings::Answer;
 use findings::Finding;
 use findings::Kind;
 use findings::found;
-use findings::refusal::Refusal;
 use heads::HeadFindings;
+use lent::Outcome;
+use lent::Refusal;
 
 // The fields that an answer names.
 enum Field {
@@ -136,19 +139,19 @@ fn letter_else(s: &[u8], field: Field, other: Answer) -> Answer
 
 // The first text field of a whole head with a bad letter, and where there is none another answer.
 fn head_letters(r: &[u8], other: Answer) -> Answer
-    requires { ⌜ length (now r) ≡ 174 ⌝ }
+    requires { ⌜ length (now r) ≡ lengths .head ⌝ }
     ensures { λ a. ⌜ a ≡ namedOr (headTexts (now (r .entry))) other ⌝ }
 {
-    let a = letter_else(&r[104..174], Field::Remark, other);
+    let a = letter_else(&r[104..frame::HEAD], Field::Remark, other);
     letter_else(&r[69..104], Field::Name, a)
 }
 
 // The first text field of a whole item with a bad letter, and where there is none another answer.
 fn item_letters(r: &[u8], other: Answer) -> Answer
-    requires { ⌜ length (now r) ≡ 249 ⌝ }
+    requires { ⌜ length (now r) ≡ lengths .item ⌝ }
     ensures { λ a. ⌜ a ≡ namedOr (itemTexts (now (r .entry))) other ⌝ }
 {
-    let a = letter_else(&r[179..249], Field::Remark, other);
+    let a = letter_else(&r[179..frame::ITEM], Field::Remark, other);
     let a = letter_else(&r[144..179], Field::Owner, a);
     let a = letter_else(&r[109..144], Field::Address, a);
     let a = letter_else(&r[74..109], Field::Name, a);
@@ -157,7 +160,7 @@ fn item_letters(r: &[u8], other: Answer) -> Answer
 
 // The answer on a whole head: a bad letter first, then the fields in order.
 fn head_alone(r: &[u8], e: u32, banks: &[u32], known: &[u8]) -> Answer
-    requires { ⌜ length (now r) ≡ 174 ⌝ }
+    requires { ⌜ length (now r) ≡ lengths .head ⌝ }
     ensures { λ a. ⌜ a ≡ headAnswer e (now (banks .entry)) (now (known .entry)) (now (r .entry)) ⌝ }
 {
     head_letters(r, head_named(heads::all_findings(r, e, banks, known)))
@@ -165,32 +168,31 @@ fn head_alone(r: &[u8], e: u32, banks: &[u32], known: &[u8]) -> Answer
 
 // The answer on a whole item at place k: a bad letter first, then the fields in order.
 fn item_alone(r: &[u8], k: u64, banks: &[u32]) -> Answer
-    requires { ⌜ length (now r) ≡ 249 ⌝ }
+    requires { ⌜ length (now r) ≡ lengths .item ⌝ }
     ensures { λ a. ⌜ a ≡ itemAnswer (now (banks .entry)) k (now (r .entry)) ⌝ }
 {
     item_letters(r, item_named(atutal::item::all_findings(r, k, banks)))
 }
 
 // The answer on a single head or item, without its ending: refusals 1, 2, 3 and 10 come first, in this order.
-pub fn judge(r: &[u8], k: u64, e: u32, banks: &[u32], known: &[u8]) -> Answer
-    ensures { λ a. ⌜ a ≡ singleAnswer e (now (banks .entry)) (now (known .entry)) k (now (r .entry)) ⌝ }
+pub fn answer(r: &[u8], k: u64, e: u32, banks: &[u32], known: &[u8]) -> Answer
+    ensures { λ a. ⌜ a ≡ singleAnswer (lent e (now (banks .entry)) (now (known .entry))) k (now (r .entry)) ⌝ }
 {
     if !calendar::is_date(e) {
         return Answer::Refused(Refusal::NotADay);
     }
-    if !lists::is_bank_list(banks) {
-        return Answer::Refused(Refusal::BankList);
+    match lent::list_refused(banks, known) {
+        Outcome::Refused(why) => Answer::Refused(why),
+        Outcome::Done => {
+            if r.len() == frame::HEAD {
+                return head_alone(r, e, banks, known);
+            }
+            if r.len() == frame::ITEM {
+                return item_alone(r, k, banks);
+            }
+            Answer::Refused(Refusal::Malformed)
+        }
     }
-    if !lists::is_known_list(known) {
-        return Answer::Refused(Refusal::KnownList);
-    }
-    if r.len() == 174 {
-        return head_alone(r, e, banks, known);
-    }
-    if r.len() == 249 {
-        return item_alone(r, k, banks);
-    }
-    Answer::Refused(Refusal::Malformed)
 }
 
 // A field's number and its kind's.
@@ -207,7 +209,7 @@ pub fn number(a: Answer) -> u32
 {
     match a {
         Answer::Accepted => 0,
-        Answer::Refused(r) => findings::refusal::number(r) as u32,
+        Answer::Refused(r) => lent::number(r) as u32,
         Answer::Type(k) => field_and_kind(1, k),
         Answer::MessageType(k) => field_and_kind(2, k),
         Answer::DuplicateCode(k) => field_and_kind(3, k),

@@ -1,27 +1,12 @@
 // Prints the slip of the message on standard input. The clearing day and the lists stand in the files `day`, `banks` and `known` of
 // the folder where it runs (01, Examples).
 ghost use Rattle.io.specs.Counts.{Counts};
+use console::read_file;
 use files::Given;
+use files::SPACE;
 use judge::Session;
 use judge::Taken;
 use libc::STDIN_FILENO;
-use libc::STDOUT_FILENO;
-
-// One byte more than a file may have, so that a longer one shows.
-const SPACE: usize = files::MOST + 1;
-
-// A file's bytes at the front of the space, and how many; none of a file that is missing or can't be read.
-fn read_file(path: &[u8], space: &mut [u8]) -> usize
-    ensures { λ r. ⌜ Counts r (now (space .exit)) ⌝ }
-{
-    let fd = os::open_read(path);
-    if fd < 0 {
-        return 0;
-    }
-    let n = io::read_full(fd, space);
-    libc::close(fd);
-    n
-}
 
 // The message, in pieces as large as the space; it is over where the input is, or where a read fails. A proved loop has to end: this
 // one counts its turns down, from a number that no run uses up.
@@ -39,7 +24,7 @@ fn read_message(
         if n == 0 {
             return t;
         }
-        t = desk::feed(t, &space[..n], banks, known, table);
+        t = slips::feed(t, &space[..n], banks, known, table);
         turns -= 1;
     }
     t
@@ -53,7 +38,7 @@ fn judged(out: &mut [u8], day: u32, banks: &[u32], known: &[u8]) -> usize
     let mut space = io::large_buffer();
     let start = Session::open(day, &table);
     let t = read_message(start, &mut space, banks, known, &mut table);
-    desk::answer(out, t)
+    slips::answer(out, t)
 }
 
 // The slip, or the refusal of a file, at the front of the output.
@@ -76,5 +61,5 @@ fn main() {
     let b = read_file(b"banks", &mut banks);
     let k = read_file(b"known", &mut known);
     let n = answered(&mut out, &day[..d], &banks[..b], &known[..k]);
-    io::write_all(STDOUT_FILENO, &out[..n]);
+    console::put(&out[..n]);
 }

@@ -3,7 +3,7 @@
 use mathlib.Core.Path.{_≡_, refl, sym, _∙_}
 use mathlib.Core.Bool.{Bool, true, false, cond, not}
 use mathlib.Core.List.{List, [], _∷_, _++_, map}
-use Prim.Native.Nat.{ℕ, zero, suc, _+_, _-_, _/_, _^_, _≤_, _<_}
+use Prim.Native.Nat.{ℕ, zero, suc, _+_, _/_, _^_, _≤_, _<_}
 use native.Mathlib.Omega.{arith}
 use lib.Dec.{leb, eqb, lit<}
 use lib.ListN.{length, getD, take, drop, length-append, length-drop, length-map, length-replicate, List·getD-append}
@@ -12,17 +12,22 @@ use borrow.Author.Tests.{leb-true, ltb-false, eqb-true, eqb-false}
 use Rattle.base.proofs.Every.{both}
 use Rattle.calendar.specs.Calendar.{isDate}
 use Rattle.calendar.proofs.Dates.{parts}
+use Rattle.lent.specs.Lent.{Lent}
 use Rattle.frame.specs.declared.Found.{Found}
-use Rattle.frame.specs.Records.{atutal, noId, itemStands, isFoot, ended, itemsIn, itemsOf, headStands}
-use Rattle.frame.specs.Verdict.{Rules, Verdict, blank, counted, findings, foundIn, messageCode, identifier, overflows, verdict, tableAfter}
-use Rattle.frame.specs.Machine.{State, fresh, run, closing}
+use Rattle.frame.specs.declared.Tally.{Tally}
+use Rattle.frame.specs.declared.Closing.{Closing}
+use Rattle.frame.specs.Records.{lengths, headEnd, itemEnd, noId, itemStands, isFoot, ended, itemsIn, headOf, itemsOf, headStands}
+use Rattle.frame.specs.Verdict.{Rules, blank, overflow, given, counted, findings, foundIn, messageCode, identifier, overflows, verdict, tableAfter}
+use Rattle.frame.specs.Machine.{fresh, run, numbers, closing}
 use Rattle.frame.proofs.Uncut.{ended-long}
 use Rattle.frame.proofs.Whole.{uncut}
-use Rattle.frame.proofs.Tally.{findings-length}
+use Rattle.frame.proofs.Counting.{findings-length}
 use Rattle.frame.proofs.Faults.{all-items}
 use Rattle.atutal.specs.Codes.{rules}
 use Rattle.atutal.proofs.Bounds.{small}
-use Rattle.judge.proofs.Valid.{Valid}
+use Rattle.atutal.proofs.Instance.{sound}
+use Rattle.judge.specs.Session.{most}
+use Rattle.judge.specs.Inner.{Ready}
 use Rattle.judge.proofs.Ranges.{kept-run, kept-fresh}
 use Rattle.status.specs.declared.reply.Particulars.{Particulars}
 use Rattle.fields.specs.Fields.{isDuplicate}
@@ -40,76 +45,75 @@ codes-at [] h i l = absurd (omega arith)
 codes-at (c ∷ cs) h zero l = h .0
 codes-at (c ∷ cs) h (suc i) l = codes-at cs (h .1) i (omega arith)
 
--- the numbers of a verdict
-pub record Fits (v : Verdict) : Type 0 where
-  pub code : v .code < 100
-  pub counts : v .acceptedCount + v .refusedCount ≤ 10000
-  pub accepted : v .acceptedSum < 10 ^ 16
-  pub refused : v .refusedSum < 10 ^ 16
+-- the numbers of a closing
+pub record Fits (k : Closing) : Type 0 where
+  pub code : k .code < 100
+  pub counts : k .accepted .count + k .refused .count ≤ most
+  pub accepted : k .accepted .sum < 10 ^ 16
+  pub refused : k .refused .sum < 10 ^ 16
 
-fits-blank : (r c : ℕ) (id : List ℕ) → c < 100 → Fits (blank r c id)
-fits-blank r c id h = record { code = h; counts = omega arith; accepted = lit< tt; refused = lit< tt }
+fits-blank : (c : ℕ) (id : List ℕ) → c < 100 → Fits (blank c id)
+fits-blank c id h = record { code = h; counts = omega arith; accepted = lit< tt; refused = lit< tt }
 
-one-of : (b : Bool) (v w : Verdict) → Fits v → Fits w → Fits (cond b v w)
-one-of true v w f g = f
-one-of false v w f g = g
+one-of : (b : Bool) (k l : Closing) → Fits k → Fits l → Fits (cond b k l)
+one-of true k l f g = f
+one-of false k l f g = g
 
--- the numbers of a state
-abbrev numbers : State → Verdict
-numbers s =
+fits-numbers : (c : Tally) (t : List ℕ) → Ready c t → Fits (numbers c)
+fits-numbers c t v =
     record {
-      refusal = 0;
-      code = 0;
-      acceptedCount = s .acceptedCount;
-      acceptedSum = s .acceptedSum;
-      refusedCount = s .refusedCount;
-      refusedSum = s .refusedSum;
-      zeros = s .zeros;
-      id = s .id;
+      code = lit< tt;
+      counts = omega (arith, v .items, v .most);
+      accepted = omega (arith, v .items, v .most, v .accepted);
+      refused = omega (arith, v .items, v .most, v .refused);
     }
 
-fits-numbers : (s : State) → Valid s → Fits (numbers s)
-fits-numbers s v = record { code = lit< tt; counts = omega arith; accepted = omega arith; refused = omega arith }
-
--- what closing says of a state whose numbers are in their ranges
-fits-closing : (s : State) → Valid s → Fits (closing s)
+-- what closing says of a tally whose numbers are in their ranges
+fits-closing : (c : Tally) (t : List ℕ) → Ready c t → Fits (closing c .closing)
 unfolding closing
-fits-closing s v =
-    one-of (eqb (s .phase) 4) _ _ (fits-blank 6 0 noId (lit< tt))
-    (one-of (eqb (s .phase) 2) _ _
-    (one-of (s .letter) _ _ (fits-blank 0 36 (s .id) (lit< tt))
-    (one-of (eqb (s .code) 0) _ _ (fits-numbers s v) (fits-blank 0 (s .code) (s .id) (omega arith))))
-    (fits-blank 0 26 (s .id) (lit< tt)))
+fits-closing c t v = go (eqb (c .phase) 4)
+  where
+    go : (b : Bool)
+        → Fits (cond b overflow (given (cond (eqb (c .phase) 2)
+        (cond (c .letter) (blank 36 (c .id)) (cond (eqb (c .code) 0) (numbers c) (blank (c .code) (c .id))))
+        (blank 26 (c .id)))) .closing)
+    go true = fits-blank 0 noId (lit< tt)
+    go false =
+        one-of (eqb (c .phase) 2) _ _
+        (one-of (c .letter) _ _ (fits-blank 36 (c .id) (lit< tt))
+        (one-of (eqb (c .code) 0) _ _ (fits-numbers c t v) (fits-blank (c .code) (c .id) (omega (arith, v .code)))))
+        (fits-blank 26 (c .id) (lit< tt))
 
--- each complete item has its 249 bytes
-items-in : (n : ℕ) (x : List ℕ) → Items (itemsIn atutal n x)
+-- each complete item has its bytes
+items-in : (n : ℕ) (x : List ℕ) → Items (itemsIn lengths n x)
 unfolding itemsIn
 items-in zero x = tt
-items-in (suc n) x = go (itemStands atutal x) refl (items-in n (drop 251 x))
+items-in (suc n) x = go (itemStands lengths x) refl (items-in n (drop itemEnd x))
   where
-    go : (b : Bool) → itemStands atutal x ≡ b → Items (itemsIn atutal n (drop 251 x)) → Items (cond b (take 249 x ∷ itemsIn atutal n (drop 251 x)) [])
-    go true e h = (length-take-le 249 x (omega (arith, ended-long 249 x (both (not (isFoot x)) (ended 249 x) e .1))), h)
+    go : (b : Bool) → itemStands lengths x ≡ b → Items (itemsIn lengths n (drop itemEnd x))
+        → Items (cond b (take (lengths .item) x ∷ itemsIn lengths n (drop itemEnd x)) [])
+    go true e h = (length-take-le (lengths .item) x (omega (arith, ended-long (lengths .item) x (both (not (isFoot x)) (ended (lengths .item) x) e .1))), h)
     go false e h = tt
 
-pub items-of : (m : List ℕ) → Items (itemsOf atutal m)
-items-of m = go (headStands atutal m)
+pub items-of : (m : List ℕ) → Items (itemsOf lengths m)
+items-of m = go (headStands lengths m)
   where
-    go : (b : Bool) → Items (cond b (itemsIn atutal (length m) (drop 176 m)) [])
-    go true = items-in (length m) (drop 176 m)
+    go : (b : Bool) → Items (cond b (itemsIn lengths (length m) (drop headEnd m)) [])
+    go true = items-in (length m) (drop headEnd m)
     go false = tt
 
-module _ (e : ℕ) (banks known : List ℕ) where
-  codes-in : (told k : ℕ) (rs : List (List ℕ)) → Codes (map (λ f. f .code) (findings (rules e banks known) told k rs))
+module _ (l : Lent) where
+  codes-in : (told k : ℕ) (rs : List (List ℕ)) → Codes (map (λ f. f .code) (findings (rules l) told k rs))
   unfolding findings
   codes-in told k [] = tt
-  codes-in told k (r ∷ rs) = (small banks k r .code, codes-in told (k + 1) rs)
+  codes-in told k (r ∷ rs) = (small (l .lists .banks) k r .code, codes-in told (k + 1) rs)
 
-module _ (e : ℕ) (banks known t m : List ℕ) where
+module _ (l : Lent) (t m : List ℕ) where
   abbrev R : Rules
-  R = rules e banks known
+  R = rules l
 
-  abbrev v : Verdict
-  v = verdict R t m
+  abbrev v : Closing
+  v = verdict R t m .closing
 
   abbrev fs : List Found
   fs = foundIn R m
@@ -118,16 +122,18 @@ module _ (e : ℕ) (banks known t m : List ℕ) where
   codes = map (λ f. f .code) fs
 
   abbrev n : ℕ
-  n = v .acceptedCount + v .refusedCount
+  n = v .accepted .count + v .refused .count
 
-  pub fits : length t ≤ 10000 → Fits (verdict R t m)
-  fits l = rw (← (uncut R t m .says)) (fits-closing (run R (fresh t) m) (kept-run e banks known (length t) (fresh t) m (kept-fresh t l) .valid))
+  pub fits : length t ≤ most → Fits (verdict R t m .closing)
+  fits h =
+      let s = run R (fresh t) m in
+      rw (← (uncut R t m .says)) (fits-closing (s .tally) (s .table) (kept-run R (sound l) (length t) (fresh t) m (kept-fresh t h) .valid))
 
   found-codes : Codes codes
-  found-codes = codes-in e banks known (R .tells (take 174 m)) 1 (itemsOf atutal m)
+  found-codes = codes-in l (R .tells (headOf lengths m)) 1 (itemsOf lengths m)
 
-  found-length : length fs ≡ length (itemsOf atutal m)
-  found-length = findings-length R (R .tells (take 174 m)) 1 (itemsOf atutal m)
+  found-length : length fs ≡ length (itemsOf lengths m)
+  found-length = findings-length R (R .tells (headOf lengths m)) 1 (itemsOf lengths m)
 
   codes-length : length codes ≡ length fs
   codes-length = length-map fs (λ f. f .code)
@@ -137,10 +143,11 @@ module _ (e : ℕ) (banks known t m : List ℕ) where
   unfolding verdict
   counted-few = go (overflows R t m) refl (eqb (messageCode R m) 0)
     where
-      w : Bool → Bool → Verdict
-      w o z = cond o (blank 6 0 noId) (cond z (counted fs (identifier R m)) (blank 0 (messageCode R m) (identifier R m)))
+      w : Bool → Bool → Closing
+      w o z = cond o overflow (given (cond z (counted fs (identifier R m)) (blank (messageCode R m) (identifier R m)))) .closing
 
-      go : (o : Bool) → overflows R t m ≡ o → (z : Bool) → (w o z .acceptedCount + w o z .refusedCount ≤ length fs) × (w o z .acceptedCount + w o z .refusedCount ≤ length t)
+      go : (o : Bool) → overflows R t m ≡ o → (z : Bool)
+          → (w o z .accepted .count + w o z .refused .count ≤ length fs) × (w o z .accepted .count + w o z .refused .count ≤ length t)
       go true o z = (omega arith, omega arith)
       go false o true = (omega (arith, all-items fs), omega (arith, all-items fs, ltb-false (length t) (length fs) o))
       go false o false = (omega arith, omega arith)
@@ -148,24 +155,30 @@ module _ (e : ℕ) (banks known t m : List ℕ) where
   -- the table keeps its length, and has the items' codes at its front
   table-length : length (tableAfter R t m) ≡ length t
   unfolding tableAfter
-  table-length = length-take-le (length t) (codes ++ drop (length fs) t) (omega (arith, length-append codes (drop (length fs) t), length-drop (length fs) t, codes-length))
+  table-length =
+      let l = length-append codes (drop (length fs) t) in
+      length-take-le (length t) (codes ++ drop (length fs) t) (omega (arith, l, length-drop (length fs) t, codes-length))
 
   table-at : (i : ℕ) → i < length t → i < length fs → getD (tableAfter R t m) i 0 ≡ getD codes i 0
   unfolding tableAfter
   table-at i l k = getD-take (length t) (codes ++ drop (length fs) t) i 0 l ∙ List·getD-append codes (drop (length fs) t) 0 i (omega (arith, codes-length))
 
-  referable : length t ≤ 10000 → Referable m (tableAfter R t m) n
-  referable l =
+  referable : length t ≤ most → Referable m (tableAfter R t m) n
+  referable h =
+      let code : (i : ℕ) → i < n → getD codes i 0 < 10 ^ 2 = λ i h. codes-at codes found-codes i (omega (arith, counted-few .0, codes-length)) in
       record {
-        most = fits l .counts;
+        most = fits h .counts;
         items = omega (arith, counted-few .0, found-length);
         codes = omega (arith, counted-few .1, table-length);
-        small = λ i h. rw (table-at i (omega (arith, counted-few .1)) (omega (arith, counted-few .0))) (codes-at codes found-codes i (omega (arith, counted-few .0, codes-length)));
+        small = λ i h. rw (table-at i (omega (arith, counted-few .1)) (omega (arith, counted-few .0))) (code i h);
       }
 
   module _ (o : overflows R t m ≡ false) where
-    -- the verdict where the table had a byte for each item
-    pub verdict-is : v ≡ cond (eqb (messageCode R m) 0) (counted fs (identifier R m)) (blank 0 (messageCode R m) (identifier R m))
+    -- the numbers where the table had a byte for each item
+    abbrev w : Bool → Closing
+    w z = cond z (counted fs (identifier R m)) (blank (messageCode R m) (identifier R m))
+
+    pub verdict-is : verdict R t m .closing ≡ w (eqb (messageCode R m) 0)
     unfolding verdict
     verdict-is = rw o
 
@@ -173,20 +186,15 @@ module _ (e : ℕ) (banks known t m : List ℕ) where
     all-counted : v .code ≡ 0 → n ≡ length fs
     all-counted = rw verdict-is (go (eqb (messageCode R m) 0) refl)
       where
-        w : Bool → Verdict
-        w z = cond z (counted fs (identifier R m)) (blank 0 (messageCode R m) (identifier R m))
-
-        go : (z : Bool) → eqb (messageCode R m) 0 ≡ z → w z .code ≡ 0 → w z .acceptedCount + w z .refusedCount ≡ length fs
+        go : (z : Bool) → eqb (messageCode R m) 0 ≡ z → w z .code ≡ 0 → w z .accepted .count + w z .refused .count ≡ length fs
         go true q c = all-items fs
         go false q c = absurd (eqb-false (messageCode R m) 0 q c)
 
-    none-counted : (v .code ≡ 0 → ⊥) → (n ≡ 0) × ((v .acceptedSum ≡ 0) × (v .refusedSum ≡ 0))
+    none-counted : (v .code ≡ 0 → ⊥) → (n ≡ 0) × ((v .accepted .sum ≡ 0) × (v .refused .sum ≡ 0))
     none-counted = rw verdict-is (go (eqb (messageCode R m) 0))
       where
-        w : Bool → Verdict
-        w z = cond z (counted fs (identifier R m)) (blank 0 (messageCode R m) (identifier R m))
-
-        go : (z : Bool) → (w z .code ≡ 0 → ⊥) → (w z .acceptedCount + w z .refusedCount ≡ 0) × ((w z .acceptedSum ≡ 0) × (w z .refusedSum ≡ 0))
+        go : (z : Bool) → (w z .code ≡ 0 → ⊥)
+            → (w z .accepted .count + w z .refused .count ≡ 0) × ((w z .accepted .sum ≡ 0) × (w z .refused .sum ≡ 0))
         go true f = absurd (f refl)
         go false f = (refl, (refl, refl))
 
@@ -238,16 +246,17 @@ time-lt p h =
     let c = both (leb (p .time / 10000) 23) _ (b .1) in
     omega (arith, leb-true (p .time / 10000) 23 (c .0))
 
-pub room-length : length room ≡ 10000
-room-length = length-replicate {A = ℕ} 10000 0
+pub room-length : length room ≡ most
+unfolding room
+room-length = length-replicate {A = ℕ} most 0
 
-module _ (e : ℕ) (banks known m : List ℕ) (p : Particulars) where
+module _ (l : Lent) (m : List ℕ) (p : Particulars) where
   -- each number of a reply fits its field
-  pub writable : isDate e ≡ true → areParticulars p ≡ true → Writable (said e banks known m p)
+  pub writable : isDate (l .day) ≡ true → areParticulars p ≡ true → Writable (said l m p)
   writable d h =
-      let f = fits e banks known room m (omega (arith, room-length)) in
+      let f = fits l room m (omega (arith, room-length)) in
       record {
-        date = date-lt e d;
+        date = date-lt (l .day) d;
         number = number-lt p h;
         time = time-lt p h;
         code = f .code;
@@ -256,29 +265,29 @@ module _ (e : ℕ) (banks known m : List ℕ) (p : Particulars) where
       }
 
   -- the table has a code for each reference
-  pub said-referable : Referable m (tableAfter (rules e banks known) room m) (said e banks known m p .references)
-  said-referable = referable e banks known room m (omega (arith, room-length))
+  pub said-referable : Referable m (tableAfter (rules l) room m) (said l m p .references)
+  said-referable = referable l room m (omega (arith, room-length))
 
-  module _ (o : overflows (rules e banks known) room m ≡ false) where
+  module _ (o : overflows (rules l) room m ≡ false) where
     abbrev count : ℕ
-    count = said e banks known m p .references
+    count = said l m p .references
 
-    pub referred-length : length (referred e banks known m) ≡ count
+    pub referred-length : length (referred l m) ≡ count
     unfolding referred
-    referred-length = told-length e banks known room m o
+    referred-length = told-length l room m o
 
-    pub referred-codes : Codes (referred e banks known m)
+    pub referred-codes : Codes (referred l m)
     unfolding referred
-    referred-codes = told-codes e banks known room m o
+    referred-codes = told-codes l room m o
 
-    pub referred-table : take count (tableAfter (rules e banks known) room m) ≡ referred e banks known m
+    pub referred-table : take count (tableAfter (rules l) room m) ≡ referred l m
     unfolding referred
-    referred-table = told-table e banks known room m o
+    referred-table = told-table l room m o
 
     -- with code 00 there is a reference for every item; with another code there is none, and the sums are 0
-    pub every-item : verdictOf e banks known m .code ≡ 0 → count ≡ length (itemsOf atutal m)
-    every-item z = all-counted e banks known room m o z ∙ found-length e banks known room m
+    pub every-item : verdictOf l m .closing .code ≡ 0 → count ≡ length (itemsOf lengths m)
+    every-item z = all-counted l room m o z ∙ found-length l room m
 
-    pub no-item : (verdictOf e banks known m .code ≡ 0 → ⊥)
-        → (count ≡ 0) × ((verdictOf e banks known m .acceptedSum ≡ 0) × (verdictOf e banks known m .refusedSum ≡ 0))
-    no-item z = none-counted e banks known room m o z
+    pub no-item : (verdictOf l m .closing .code ≡ 0 → ⊥)
+        → (count ≡ 0) × ((verdictOf l m .closing .accepted .sum ≡ 0) × (verdictOf l m .closing .refused .sum ≡ 0))
+    no-item z = none-counted l room m o z

@@ -1,24 +1,26 @@
--- Judging the whole message with room for 10,000 items: its refusals are the reply's first ones, and what it gives is what the reply says.
+-- Judging the whole message with the largest table: its refusals are the reply's first ones, and what it gives is what the reply says.
 -- Assumes nothing.
 use mathlib.Core.Path.{_≡_, refl, sym, ap, _∙_}
-use mathlib.Core.Bool.{Bool, true, false, cond, false≢true}
+use mathlib.Core.Bool.{Bool, true, false, false≢true}
 use mathlib.Core.List.{List}
-use Prim.Native.Nat.{ℕ}
-use lib.Dec.{eqb}
+use Prim.Native.Nat.{ℕ, _≤_}
+use native.Mathlib.Omega.{arith}
+use lib.ListN.{length}
+use borrow.Author.Tests.{le-leb}
 use Rattle.calendar.specs.Calendar.{isDate}
-use Rattle.lists.specs.Banks.{isBankList}
-use Rattle.lists.specs.Known.{isKnownList}
-use Rattle.frame.specs.Verdict.{Rules, blank, counted, foundIn, messageCode, identifier, overflows, verdict, tableAfter}
+use Rattle.lent.specs.Lent.{Lent, listRefused}
+use Rattle.lent.specs.declared.Refusal.{Refusal}
+use Rattle.lent.specs.declared.Refusal.the-variants as refusal
+use Rattle.lent.specs.declared.Outcome.{Outcome}
+use Rattle.lent.specs.declared.Outcome.the-variants.{Done, Refused}
+use Rattle.frame.specs.Verdict.{Rules, overflows, verdict, tableAfter}
 use Rattle.atutal.specs.Codes.{rules}
-use Rattle.findings.specs.declared.refusal.Refusal.{Refusal}
-use Rattle.findings.specs.declared.refusal.Refusal.the-variants as refusal
-use Rattle.judge.specs.declared.Outcome.{Outcome}
-use Rattle.judge.specs.declared.Outcome.the-variants.{Done, Refused}
 use Rattle.judge.specs.declared.Judged.{Judged}
-use Rattle.judge.specs.Session.{closingOf, outcomeOf, judgedOf, tableJudged}
+use Rattle.judge.specs.Session.{most, outcomeOf, openRefused, wholeRefused, judgedOf, tableJudged}
 use Rattle.status.specs.declared.reply.Particulars.{Particulars}
 use Rattle.status.specs.declared.reply.Answer.the-variants as answer
 use Rattle.status.specs.Reply.{room, verdictOf, answer as answerOf}
+use Rattle.status.proofs.Bounds.{room-length}
 
 -- the refusal of an outcome
 abbrev of : Outcome → Refusal
@@ -29,9 +31,14 @@ abbrev isDone : Outcome → Bool
 isDone Done = true
 isDone (Refused r) = false
 
-module _ (e : ℕ) (banks known m : List ℕ) where
+-- with a day and a table that isn't too long, the lists are what is looked at first
+lists-first : (l : Lent) (t : List ℕ) → isDate (l .day) ≡ true → length t ≤ most → wholeRefused l t ≡ listRefused (l .lists)
+unfolding wholeRefused openRefused
+lists-first l t d h = rw (d, le-leb (length t) most h)
+
+module _ (l : Lent) (m : List ℕ) where
   abbrev R : Rules
-  R = rules e banks known
+  R = rules l
 
   outcome-over : overflows R room m ≡ true → outcomeOf (verdict R room m) ≡ Refused refusal.Overflow
   unfolding verdict
@@ -39,25 +46,20 @@ module _ (e : ℕ) (banks known m : List ℕ) where
 
   outcome-done : overflows R room m ≡ false → outcomeOf (verdict R room m) ≡ Done
   unfolding verdict
-  outcome-done o = rw o (go (eqb (messageCode R m) 0))
-    where
-      go : (z : Bool) → outcomeOf (cond z (counted (foundIn R m) (identifier R m)) (blank 0 (messageCode R m) (identifier R m))) ≡ Done
-      go true = refl
-      go false = refl
+  outcome-done o = rw o
 
   abbrev j : Judged
-  j = judgedOf e banks known room m
+  j = judgedOf l room m
 
   -- nothing is refused before the address
   pub record Passed : Type 0 where
-    pub day : isDate e ≡ true
-    pub banks-list : isBankList banks ≡ true
-    pub known-list : isKnownList known ≡ true
+    pub day : isDate (l .day) ≡ true
+    pub lists : listRefused (l .lists) ≡ Done
     pub few : overflows R room m ≡ false
 
   -- the answer where judging refuses, and where it doesn't
   pub record Agrees : Type 1 where
-    pub refuses : (r : Refusal) → j .outcome ≡ Refused r → (p : Particulars) (out : List ℕ) → answerOf e banks known m p out ≡ answer.Refused r
+    pub refuses : (r : Refusal) → j .outcome ≡ Refused r → (p : Particulars) (out : List ℕ) → answerOf l m p out ≡ answer.Refused r
     pub passes : j .outcome ≡ Done → Passed
 
   same-refusal : {r q : Refusal} → {o : Outcome} → o ≡ Refused r → o ≡ Refused q → r ≡ q
@@ -66,50 +68,47 @@ module _ (e : ℕ) (banks known m : List ℕ) where
   never : {A : Type 0} {r : Refusal} {o : Outcome} → o ≡ Refused r → o ≡ Done → A
   never h k = absurd (false≢true (ap isDone (sym h ∙ k)))
 
-  by-refusal : (r : Refusal) → j .outcome ≡ Refused r → ((p : Particulars) (out : List ℕ) → answerOf e banks known m p out ≡ answer.Refused r) → Agrees
+  by-refusal : (r : Refusal) → j .outcome ≡ Refused r → ((p : Particulars) (out : List ℕ) → answerOf l m p out ≡ answer.Refused r) → Agrees
   by-refusal r h k = record { refuses = λ q i p out. k p out ∙ ap answer.Refused (same-refusal h i); passes = λ i. never h i }
 
-  no-day : isDate e ≡ false → Agrees
-  unfolding judgedOf answerOf
+  no-day : isDate (l .day) ≡ false → Agrees
+  unfolding judgedOf wholeRefused openRefused answerOf
   no-day d = by-refusal refusal.NotADay (rw d) (λ p out. rw d)
 
-  module _ (d : isDate e ≡ true) where
-    no-banks : isBankList banks ≡ false → Agrees
+  module _ (d : isDate (l .day) ≡ true) where
+    whole-is : wholeRefused l room ≡ listRefused (l .lists)
+    whole-is = lists-first l room d (omega (arith, room-length))
+
+    no-list : (r : Refusal) → listRefused (l .lists) ≡ Refused r → Agrees
     unfolding judgedOf answerOf
-    no-banks b = by-refusal refusal.BankList (rw (d, b)) (λ p out. rw (d, b))
+    no-list r b = by-refusal r (rw (whole-is, b)) (λ p out. rw (d, b))
 
-    module _ (b : isBankList banks ≡ true) where
-      no-known : isKnownList known ≡ false → Agrees
+    module _ (b : listRefused (l .lists) ≡ Done) where
+      too-many : overflows R room m ≡ true → Agrees
       unfolding judgedOf answerOf
-      no-known k = by-refusal refusal.KnownList (rw (d, b, k)) (λ p out. rw (d, b, k))
+      too-many o = by-refusal refusal.Overflow (rw (whole-is, b) (outcome-over o)) (λ p out. rw (d, b, o))
 
-      module _ (k : isKnownList known ≡ true) where
-        too-many : overflows R room m ≡ true → Agrees
-        unfolding judgedOf answerOf
-        too-many o = by-refusal refusal.Overflow (rw (d, b, k) (outcome-over o)) (λ p out. rw (d, b, k, o))
+      done-outcome : overflows R room m ≡ false → j .outcome ≡ Done
+      unfolding judgedOf
+      done-outcome o = rw (whole-is, b) (outcome-done o)
 
-        done-outcome : overflows R room m ≡ false → j .outcome ≡ Done
-        unfolding judgedOf
-        done-outcome o = rw (d, b, k) (outcome-done o)
-
-        judged : overflows R room m ≡ false → Agrees
-        judged o = record { refuses = λ r h p out. never h (done-outcome o); passes = λ i. record { day = d; banks-list = b; known-list = k; few = o } }
+      judged : overflows R room m ≡ false → Agrees
+      judged o = record { refuses = λ r h p out. never h (done-outcome o); passes = λ i. record { day = d; lists = b; few = o } }
 
   pub agrees : Agrees
-  agrees = go (isDate e) refl (isBankList banks) refl (isKnownList known) refl (overflows R room m) refl
+  agrees = go (isDate (l .day)) refl (listRefused (l .lists)) refl (overflows R room m) refl
     where
-      go : (a : Bool) → isDate e ≡ a → (b : Bool) → isBankList banks ≡ b → (k : Bool) → isKnownList known ≡ k → (o : Bool) → overflows R room m ≡ o → Agrees
-      go false d b b′ k k′ o o′ = no-day d
-      go true d false b k k′ o o′ = no-banks d b
-      go true d true b false k o o′ = no-known d b k
-      go true d true b true k true o = too-many d b k o
-      go true d true b true k false o = judged d b k o
+      go : (a : Bool) → isDate (l .day) ≡ a → (b : Outcome) → listRefused (l .lists) ≡ b → (o : Bool) → overflows R room m ≡ o → Agrees
+      go false d b b′ o o′ = no-day d
+      go true d (Refused r) b o o′ = no-list d r b
+      go true d Done b true o = too-many d b o
+      go true d Done b false o = judged d b o
 
   module _ (g : Passed) where
-    pub closing-is : j .closing ≡ closingOf (verdictOf e banks known m)
+    pub closing-is : j .closing ≡ verdictOf l m .closing
     unfolding judgedOf
-    closing-is = rw (g .day, g .banks-list, g .known-list)
+    closing-is = rw (whole-is (g .day), g .lists)
 
-    pub table-is : tableJudged e banks known room m ≡ tableAfter R room m
+    pub table-is : tableJudged l room m ≡ tableAfter R room m
     unfolding tableJudged
-    table-is = rw (g .day, g .banks-list, g .known-list)
+    table-is = rw (whole-is (g .day), g .lists)

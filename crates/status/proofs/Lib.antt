@@ -5,3 +5,4 @@ pub mod Bounds
 pub mod Referred
 pub mod Judging
 pub mod SessionVerdict
+pub mod Granted

@@ -4,13 +4,13 @@ use mathlib.Core.Path.{_≡_, refl, sym, ap, _∙_}
 use mathlib.Core.Bool.{Bool, true, false, cond, not}
 use mathlib.Core.List.{List, [], _∷_, _++_, append-assoc, append-nil}
 use Prim.Native.Nat.{ℕ, zero, suc, _+_, _*_, _≤_, _<_}
-use native.Mathlib.Nat.{zero-add, add-zero, add-assoc}
-use native.Mathlib.Numerals.{add-one}
+use native.Mathlib.Nat.{add-zero}
 use native.Mathlib.Omega.{arith}
-use lib.ListN.{length, getD, take, drop, length-append, length-drop}
+use lib.ListN.{length, getD, take, drop, length-drop}
 use lib.Seq.{drop-drop}
 use Rattle.base.proofs.Every.{both}
-use Rattle.frame.specs.Records.{atutal, ended, isFoot, itemStands, headStands, itemsIn, itemsOf}
+use Rattle.frame.specs.Records.{lengths, headEnd, itemEnd, ended, isFoot, itemStands, headStands, itemsIn, itemsOf}
+use Rattle.frame.specs.Places.{place}
 use Rattle.frame.proofs.Uncut.{ended-long}
 use Rattle.frame.proofs.Places.{kth}
 use Rattle.status.specs.Records.{reference, references}
@@ -37,24 +37,24 @@ references-snoc k (c ∷ cs) (r ∷ rs) (suc i) h j =
 
 -- an item of a message: where it stands, and its bytes
 pub record Placed (m : List ℕ) (k : ℕ) : Type 0 where
-  pub long : 176 + k * 251 + 251 ≤ length m
-  pub bytes : getD (itemsOf atutal m) k [] ≡ take 249 (drop (176 + k * 251) m)
+  pub long : place k + itemEnd ≤ length m
+  pub bytes : getD (itemsOf lengths m) k [] ≡ take (lengths .item) (drop (place k) m)
 
-pub placed : (m : List ℕ) (k : ℕ) → k < length (itemsOf atutal m) → Placed m k
-placed m k h = go (headStands atutal m) refl h
+pub placed : (m : List ℕ) (k : ℕ) → k < length (itemsOf lengths m) → Placed m k
+placed m k h = go (headStands lengths m) refl h
   where
     items : List (List ℕ)
-    items = itemsIn atutal (length m) (drop 176 m)
+    items = itemsIn lengths (length m) (drop headEnd m)
 
-    go : (b : Bool) → headStands atutal m ≡ b → k < length (cond b items []) → Placed m k
+    go : (b : Bool) → headStands lengths m ≡ b → k < length (cond b items []) → Placed m k
     go false e h = absurd (omega arith)
     go true e h =
-        let p = 176 + k * 251 in
-        let q = kth atutal (length m) (drop 176 m) k h in
-        let d : drop (k * 251) (drop 176 m) ≡ drop p m = drop-drop (k * 251) 176 m in
-        let s : itemStands atutal (drop p m) ≡ true = sym (ap (itemStands atutal) d) ∙ q .stands in
-        let l = ended-long 249 (drop p m) (both (not (isFoot (drop p m))) (ended 249 (drop p m)) s .1) in
+        let p = place k in
+        let q = kth lengths (length m) (drop headEnd m) k h in
+        let d : drop (k * itemEnd) (drop headEnd m) ≡ drop p m = drop-drop (k * itemEnd) headEnd m in
+        let s : itemStands lengths (drop p m) ≡ true = sym (ap (itemStands lengths) d) ∙ q .stands in
+        let l = ended-long (lengths .item) (drop p m) (both (not (isFoot (drop p m))) (ended (lengths .item) (drop p m)) s .1) in
         record {
           long = omega (arith, length-drop p m);
-          bytes = ap (λ (b : Bool). getD (cond b items []) k []) e ∙ q .bytes ∙ ap (take 249) d;
+          bytes = ap (λ (b : Bool). getD (cond b items []) k []) e ∙ q .bytes ∙ ap (take (lengths .item)) d;
         }

@@ -3,7 +3,7 @@
 use mathlib.Core.Path.{_≡_, refl, sym, ap, _∙_}
 use mathlib.Core.Bool.{true, false}
 use mathlib.Core.List.{List, [], _∷_}
-use Prim.Native.Nat.{ℕ, _+_, _-_, _*_, _≤_}
+use Prim.Native.Nat.{ℕ, _+_, _*_, _≤_}
 use native.Mathlib.Omega.{arith}
 use lib.Dec.{leb}
 use lib.ListN.{length, take, drop, length-drop}
@@ -11,7 +11,8 @@ use lib.Seq.{length-take-le, take-nil}
 use borrow.Author.Tests.{leb-true, le-leb}
 use Rattle.base.specs.Bytes.{field}
 use Rattle.base.proofs.Every.{both}
-use Rattle.frame.specs.Records.{atutal, idOf, itemsOf}
+use Rattle.lent.specs.Lent.{Lent}
+use Rattle.frame.specs.Records.{lengths, idOf, itemsOf}
 use Rattle.frame.specs.Verdict.{overflows, tableAfter}
 use Rattle.atutal.specs.Codes.{rules}
 use Rattle.status.specs.declared.reply.Particulars.{Particulars}
@@ -46,39 +47,39 @@ module _ (m : List ℕ) (h : hasAddress m ≡ true) where
   unfolding idOf
   address-id = rw (le-leb 34 (length m) address-long)
 
-module _ (e : ℕ) (banks known m : List ℕ) (p : Particulars) (o : overflows (rules e banks known) room m ≡ false) where
+module _ (l : Lent) (m : List ℕ) (p : Particulars) (o : overflows (rules l) room m ≡ false) where
   abbrev count : ℕ
-  count = said e banks known m p .references
+  count = said l m p .references
 
   -- the items that are referred to
   abbrev few : List (List ℕ)
-  few = take count (itemsOf atutal m)
+  few = take count (itemsOf lengths m)
 
   pub few-length : length few ≡ count
-  few-length = length-take-le count (itemsOf atutal m) (said-referable e banks known m p .items)
+  few-length = length-take-le count (itemsOf lengths m) (said-referable l m p .items)
 
   pub few-items : Items few
-  few-items = items-take count (itemsOf atutal m) (items-of m)
+  few-items = items-take count (itemsOf lengths m) (items-of m)
 
   -- the reply by the items referred to, with their codes, and with the table
-  pub reply-few : reply e banks known m p ≡ written (said e banks known m p) (referred e banks known m) few
+  pub reply-few : reply l m p ≡ written (said l m p) (referred l m) few
   unfolding reply written
   reply-few =
-      let cs = referred e banks known m in
-      let q : references 1 cs few ≡ references 1 cs (itemsOf atutal m) =
-      ap (λ (i : ℕ). references 1 cs (take i (itemsOf atutal m))) (sym (referred-length e banks known m p o)) ∙ references-items 1 cs (itemsOf atutal m) in
+      let cs = referred l m in
+      let q : references 1 cs few ≡ references 1 cs (itemsOf lengths m) =
+      ap (λ (i : ℕ). references 1 cs (take i (itemsOf lengths m))) (sym (referred-length l m p o)) ∙ references-items 1 cs (itemsOf lengths m) in
       rw q
 
-  pub reply-table : reply e banks known m p ≡ written (said e banks known m p) (tableAfter (rules e banks known) room m) few
+  pub reply-table : reply l m p ≡ written (said l m p) (tableAfter (rules l) room m) few
   unfolding written
   reply-table =
-      let t = tableAfter (rules e banks known) room m in
-      let q : references 1 (referred e banks known m) few ≡ references 1 t few =
-      ap (λ (cs : List ℕ). references 1 cs few) (sym (referred-table e banks known m p o) ∙ ap (λ (i : ℕ). take i t) (sym few-length)) ∙ references-codes 1 t few in
+      let t = tableAfter (rules l) room m in
+      let c : referred l m ≡ take (length few) t = sym (referred-table l m p o) ∙ ap (λ (i : ℕ). take i t) (sym few-length) in
+      let q : references 1 (referred l m) few ≡ references 1 t few = ap (λ (cs : List ℕ). references 1 cs few) c ∙ references-codes 1 t few in
       reply-few ∙ rw q
 
-  pub reply-length : length (field 10 34 m) ≡ 25 → length (reply e banks known m p) ≡ 104 + 65 * count
+  pub reply-length : length (field 10 34 m) ≡ 25 → length (reply l m p) ≡ 104 + 65 * count
   reply-length h =
       ap length reply-few
-      ∙ written-length (said e banks known m p) (referred e banks known m) few h (referred-length e banks known m p o ∙ sym few-length) few-items
+      ∙ written-length (said l m p) (referred l m) few h (referred-length l m p o ∙ sym few-length) few-items
       ∙ ap (λ (i : ℕ). 104 + 65 * i) few-length

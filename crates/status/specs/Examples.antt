@@ -4,8 +4,8 @@ use mathlib.Core.Path.{_≡_, refl}
 use mathlib.Core.List.{[], _++_}
 use Rattle.base.specs.Bytes.{ascii}
 use Rattle.digits.specs.Digits.{figures}
-use Rattle.judge.specs.Session.{none}
-use Rattle.status.specs.declared.Status.{Status}
+use Rattle.frame.specs.Verdict.{none}
+use Rattle.frame.specs.declared.Status.{Status}
 use Rattle.status.specs.Records.{ending, headRecord, references, footRecord, written}
 
 abbrev refusing : Status

@@ -7,7 +7,7 @@ use lib.ListN.{replicate}
 use Rattle.base.specs.Bytes.{ascii, field}
 use Rattle.text.specs.Text.{isPlain}
 use Rattle.digits.specs.Digits.{figures}
-use Rattle.status.specs.declared.Status.{Status}
+use Rattle.frame.specs.declared.Status.{Status}
 
 -- 0Dh 0Ah
 abbrev pub ending : List ℕ

@@ -8,15 +8,14 @@ use lib.ListN.{length, replicate}
 use lib.Dec.{leb, eqb}
 use Rattle.base.specs.Bytes.{field, over}
 use Rattle.calendar.specs.Calendar.{isDate}
-use Rattle.lists.specs.Banks.{isBankList}
-use Rattle.lists.specs.Known.{isKnownList}
-use Rattle.frame.specs.Records.{atutal, itemsOf}
+use Rattle.lent.specs.Lent.{Lent, listRefused, by}
+use Rattle.frame.specs.Records.{lengths, itemsOf}
 use Rattle.frame.specs.Verdict.{Verdict, foundIn, overflows, verdict}
 use Rattle.atutal.specs.Codes.{rules}
-use Rattle.findings.specs.declared.refusal.Refusal.the-variants.{NotADay, BankList, KnownList, Overflow, Address, Particulars as WrongParticulars, Room}
-use Rattle.judge.specs.declared.Closing.{Closing}
-use Rattle.judge.specs.Session.{most, closingOf}
-use Rattle.status.specs.declared.Status.{Status}
+use Rattle.lent.specs.declared.Refusal.the-variants.{NotADay, Overflow, Address, Particulars as WrongParticulars, Room}
+use Rattle.frame.specs.declared.Closing.{Closing}
+use Rattle.judge.specs.Session.{most}
+use Rattle.frame.specs.declared.Status.{Status}
 use Rattle.status.specs.declared.reply.Particulars.{Particulars}
 use Rattle.status.specs.declared.reply.Answer.{Answer}
 use Rattle.status.specs.declared.reply.Answer.the-variants.{Written, Refused}
@@ -50,45 +49,43 @@ saying e id p c =
       references = c .accepted .count + c .refused .count;
     }
 
--- a reply is for 10,000 items at most
-abbrev pub room : List ℕ
+-- a reply is for no more items than a table may have bytes
+unfoldable pub room : List ℕ
 room = replicate most 0
 
-module _ (e : ℕ) (banks known m : List ℕ) where
-  -- the verdict that a session gives with room for 10,000 items
+module _ (l : Lent) (m : List ℕ) where
+  -- the verdict that a session gives with such a table
   abbrev pub verdictOf : Verdict
-  verdictOf = verdict (rules e banks known) room m
+  verdictOf = verdict (rules l) room m
 
   -- the items' codes, in order
   abbrev pub codesOf : List ℕ
-  codesOf = map (λ f. f .code) (foundIn (rules e banks known) m)
+  codesOf = map (λ f. f .code) (foundIn (rules l) m)
 
   -- with a code other than 00 there are no references
   unfoldable pub referred : List ℕ
-  referred = cond (eqb (verdictOf .code) 0) codesOf []
+  referred = cond (eqb (verdictOf .closing .code) 0) codesOf []
 
   -- what the reply says
   abbrev pub said : Particulars → Status
-  said p = saying e (field 10 34 m) p (closingOf verdictOf)
+  said p = saying (l .day) (field 10 34 m) p (verdictOf .closing)
 
   unfoldable pub reply : Particulars → List ℕ
-  reply p = written (said p) referred (itemsOf atutal m)
+  reply p = written (said p) referred (itemsOf lengths m)
 
   -- refusals 1, 2, 3, 6, 7, 8, 9 in this order; else the length
   unfoldable pub answer : Particulars → List ℕ → Answer
   answer p out =
-      cond (isDate e)
-      (cond (isBankList banks)
-      (cond (isKnownList known)
-      (cond (overflows (rules e banks known) room m)
+      cond (isDate (l .day))
+      (by (listRefused (l .lists))
+      (cond (overflows (rules l) room m)
       (Refused Overflow)
       (cond (hasAddress m)
       (cond (areParticulars p)
       (cond (leb (length (reply p)) (length out)) (Written (length (reply p))) (Refused Room))
       (Refused WrongParticulars))
       (Refused Address)))
-      (Refused KnownList))
-      (Refused BankList))
+      Refused)
       (Refused NotADay)
 
   -- the output afterwards: the reply and what stood there beyond it; nothing is altered by a refused call
@@ -99,6 +96,6 @@ module _ (e : ℕ) (banks known m : List ℕ) where
       put (Written n) = over out 0 (reply p)
       put (Refused r) = out
 
-pub record Replied (e : ℕ) (banks known m : List ℕ) (p : Particulars) (out : List ℕ) (r : Answer) (out′ : List ℕ) : Type 0 where
-  pub result : r ≡ answer e banks known m p out
-  pub bytes : out′ ≡ output e banks known m p out
+pub record Replied (l : Lent) (m : List ℕ) (p : Particulars) (out : List ℕ) (r : Answer) (out′ : List ℕ) : Type 0 where
+  pub result : r ≡ answer l m p out
+  pub bytes : out′ ≡ output l m p out

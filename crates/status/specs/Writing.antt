@@ -5,9 +5,10 @@ use mathlib.Core.List.{List, [], _∷_, _++_}
 use lib.ListN.{length, getD}
 use Rattle.base.specs.Bytes.{ascii}
 use Rattle.digits.specs.Digits.{figures}
-use Rattle.frame.specs.Records.{atutal, itemsOf}
-use Rattle.judge.specs.declared.Totals.{Totals}
-use Rattle.status.specs.declared.Status.{Status}
+use Rattle.frame.specs.Records.{lengths, itemsOf}
+use Rattle.frame.specs.declared.Totals.{Totals}
+use Rattle.judge.specs.Session.{most}
+use Rattle.frame.specs.declared.Status.{Status}
 use Rattle.status.specs.Records.{ending}
 
 -- positions 1-34 of the head, and the rest with its ending
@@ -36,7 +37,7 @@ pub record Writable (s : Status) : Type 0 where
 
 -- the first n items of a message have codes of two digits, and places of six
 pub record Referable (m cs : List ℕ) (n : ℕ) : Type 0 where
-  pub most : n ≤ 10000
-  pub items : n ≤ length (itemsOf atutal m)
+  pub most : n ≤ most
+  pub items : n ≤ length (itemsOf lengths m)
   pub codes : n ≤ length cs
   pub small : (i : ℕ) → i < n → getD cs i 0 < 10 ^ 2

@@ -3,15 +3,17 @@ ghost use mathlib.Core.Path.{_≡_};
 ghost use Prim.Native.Nat.{_+_, _*_, _^_, _≤_, _<_};
 ghost use lib.ListN.{length, take};
 ghost use Rattle.base.specs.Bytes.{over};
-ghost use Rattle.digits.specs.Digits.{figures};
-ghost use Rattle.frame.specs.Records.{atutal, itemsOf};
+ghost use Rattle.frame.specs.Records.{lengths, itemsOf};
+ghost use Rattle.lent.specs.Lent.{lent};
+ghost use Rattle.judge.specs.Session.{most};
 ghost use Rattle.status.specs.Records.{headRecord, reference, references, footRecord, written};
 ghost use Rattle.status.specs.Reply.{hasAddress, isTime, areParticulars, saying, Replied};
 ghost use Rattle.status.specs.Writing.{address, own, totals, Countable, Writable, Referable};
-use crate::Status;
-use findings::refusal::Refusal;
-use judge::Outcome;
-use judge::Totals;
+use frame::Status;
+use frame::Totals;
+use judge::Session;
+use lent::Outcome;
+use lent::Refusal;
 
 // What the caller says of a reply beside its date: duplicate code 0 or @, number to 9999, time hhmmss.
 pub struct Particulars {
@@ -26,30 +28,14 @@ pub enum Answer {
     Refused(Refusal),
 }
 
-// Bytes, at a place.
-fn put_bytes(out: &mut [u8], at: usize, s: &[u8])
-    requires { ⌜ at + length (now s) ≤ length (now out) ⌝ }
-    ensures { λ _. ⌜ now (out .exit) ≡ over (now (out .entry)) at (now (s .entry)) ⌝ }
-{
-    text::put(&mut out[at..], s);
-}
-
-// A number of w digits, at a place.
-fn put_number(out: &mut [u8], at: usize, w: usize, n: u64)
-    requires { ⌜ (at + w ≤ length (now out)) × (n < 10 ^ w) ⌝ }
-    ensures { λ _. ⌜ now (out .exit) ≡ over (now (out .entry)) at (figures w n) ⌝ }
-{
-    digits::put_number(&mut out[at..], w, n);
-}
-
 // Positions 1-34 of the head: its type, the message type, the duplicate code and the order's address.
 fn put_address(out: &mut [u8], duplicate: u8, id: &[u8])
     requires { ⌜ (34 ≤ length (now out)) × (length (now id) ≡ 25) ⌝ }
     ensures { λ _. ⌜ now (out .exit) ≡ over (now (out .entry)) 0 (address duplicate (now (id .entry))) ⌝ }
 {
-    put_bytes(out, 0, b"01STATUS");
-    put_bytes(out, 8, &[duplicate]);
-    put_bytes(out, 9, id);
+    text::put_at(out, 0, b"01STATUS");
+    text::put_at(out, 8, &[duplicate]);
+    text::put_at(out, 9, id);
 }
 
 // Positions 35-54 of the head and its ending, at the front of what is lent.
@@ -57,11 +43,11 @@ fn put_own(out: &mut [u8], s: Status)
     requires { ⌜ (22 ≤ length (now out)) × Writable s ⌝ }
     ensures { λ _. ⌜ now (out .exit) ≡ over (now (out .entry)) 0 (own s) ⌝ }
 {
-    put_number(out, 0, 8, s.date as u64);
-    put_number(out, 8, 4, s.number as u64);
-    put_number(out, 12, 6, s.time as u64);
-    put_number(out, 18, 2, s.code as u64);
-    put_bytes(out, 20, b"\r\n");
+    digits::put_at(out, 0, 8, s.date as u64);
+    digits::put_at(out, 8, 4, s.number as u64);
+    digits::put_at(out, 12, 6, s.time as u64);
+    digits::put_at(out, 18, 2, s.code as u64);
+    text::put_at(out, 20, b"\r\n");
 }
 
 // The head, 54 bytes and its ending, at the front of what is lent.
@@ -76,15 +62,15 @@ fn put_head(out: &mut [u8], s: Status)
 
 // A reference, 63 bytes and its ending, at the front of what is lent.
 fn put_reference(out: &mut [u8], place: u64, code: u8, item: &[u8])
-    requires { ⌜ (65 ≤ length (now out)) × (length (now item) ≡ 249) × (place < 10 ^ 6) × (code < 10 ^ 2) ⌝ }
+    requires { ⌜ (65 ≤ length (now out)) × (length (now item) ≡ lengths .item) × (place < 10 ^ 6) × (code < 10 ^ 2) ⌝ }
     ensures { λ _. ⌜ now (out .exit) ≡ over (now (out .entry)) 0 (reference place code (now (item .entry))) ⌝ }
 {
-    put_bytes(out, 0, b"02");
-    put_number(out, 2, 6, place);
-    put_number(out, 8, 2, code as u64);
-    put_bytes(out, 10, b"                             ");
-    put_bytes(out, 39, &item[50..74]);
-    put_bytes(out, 63, b"\r\n");
+    text::put_at(out, 0, b"02");
+    digits::put_at(out, 2, 6, place);
+    digits::put_at(out, 8, 2, code as u64);
+    text::put_at(out, 10, b"                             ");
+    text::put_at(out, 39, &item[50..74]);
+    text::put_at(out, 63, b"\r\n");
 }
 
 // The four totals of a foot, 44 bytes, at the front of what is lent.
@@ -92,10 +78,10 @@ fn put_totals(out: &mut [u8], accepted: Totals, refused: Totals)
     requires { ⌜ (44 ≤ length (now out)) × Countable accepted × Countable refused ⌝ }
     ensures { λ _. ⌜ now (out .exit) ≡ over (now (out .entry)) 0 (totals accepted refused) ⌝ }
 {
-    put_number(out, 0, 6, accepted.count);
-    put_number(out, 6, 16, accepted.sum);
-    put_number(out, 22, 6, refused.count);
-    put_number(out, 28, 16, refused.sum);
+    digits::put_at(out, 0, 6, accepted.count);
+    digits::put_at(out, 6, 16, accepted.sum);
+    digits::put_at(out, 22, 6, refused.count);
+    digits::put_at(out, 28, 16, refused.sum);
 }
 
 // The foot, 46 bytes and its ending, at the front of what is lent.
@@ -105,22 +91,22 @@ fn put_foot(out: &mut [u8], s: Status)
 {
     let a = s.accepted;
     let r = s.refused;
-    put_bytes(out, 0, b"03");
+    text::put_at(out, 0, b"03");
     put_totals(&mut out[2..], a, r);
-    put_bytes(out, 46, b"\r\n");
+    text::put_at(out, 46, b"\r\n");
 }
 
 // The references of the first n items, one after the other from the front of what is lent.
 fn put_references(out: &mut [u8], message: &[u8], codes: &[u8], n: usize)
     requires { ⌜ Referable (now message) (now codes) n ⌝ }
     requires { ⌜ n * 65 ≤ length (now out) ⌝ }
-    ensures { λ _. ⌜ now (out .exit) ≡ over (now (out .entry)) 0 (references 1 (now (codes .entry)) (take n (itemsOf atutal (now (message .entry))))) ⌝ }
+    ensures { λ _. ⌜ now (out .exit) ≡ over (now (out .entry)) 0 (references 1 (now (codes .entry)) (take n (itemsOf lengths (now (message .entry))))) ⌝ }
 {
     let mut i = 0;
     while i < n {
         let at = i * 65;
-        let from = 176 + i * 251;
-        let end = from + 249;
+        let from = frame::HEAD_ENDED + i * frame::ITEM_ENDED;
+        let end = from + Session::ITEM;
         put_reference(&mut out[at..], i as u64 + 1, codes[i], &message[from..end]);
         i += 1;
     }
@@ -130,7 +116,8 @@ fn put_references(out: &mut [u8], message: &[u8], codes: &[u8], n: usize)
 fn put_reply(out: &mut [u8], s: Status, message: &[u8], codes: &[u8])
     requires { ⌜ Writable s × Referable (now message) (now codes) (s .references) ⌝ }
     requires { ⌜ 104 + s .references * 65 ≤ length (now out) ⌝ }
-    ensures { λ _. ⌜ now (out .exit) ≡ over (now (out .entry)) 0 (written s (now (codes .entry)) (take (s .references) (itemsOf atutal (now (message .entry))))) ⌝ }
+    ensures { λ _. ⌜ now (out .exit)
+        ≡ over (now (out .entry)) 0 (written s (now (codes .entry)) (take (s .references) (itemsOf lengths (now (message .entry))))) ⌝ }
 {
     let n = s.references;
     put_head(out, s);
@@ -164,8 +151,8 @@ fn are_particulars(p: Particulars) -> bool
 }
 
 // What a reply says, with a reference for each item that the closing counts.
-fn said(day: u32, id: [u8; 25], p: Particulars, c: judge::Closing) -> Status
-    requires { ⌜ c .accepted .count + c .refused .count ≤ 10000 ⌝ }
+fn said(day: u32, id: [u8; 25], p: Particulars, c: frame::Closing) -> Status
+    requires { ⌜ c .accepted .count + c .refused .count ≤ most ⌝ }
     ensures { λ r. ⌜ r ≡ saying day id p c ⌝ }
 {
     let a = c.accepted;
@@ -192,9 +179,9 @@ pub fn write(
     particulars: Particulars,
     out: &mut [u8],
 ) -> Answer
-    ensures { λ r. ⌜ Replied day (now (banks .entry)) (now (known .entry)) (now (message .entry)) particulars (now (out .entry)) r (now (out .exit)) ⌝ }
+    ensures { λ r. ⌜ Replied (lent day (now (banks .entry)) (now (known .entry))) (now (message .entry)) particulars (now (out .entry)) r (now (out .exit)) ⌝ }
 {
-    let mut codes = [0u8; 10000];
+    let mut codes = [0u8; Session::MOST];
     let j = message::judge(day, banks, known, &mut codes, message);
     let o = j.outcome;
     let c = j.closing;

@@ -1,7 +1,7 @@
 -- Which bytes are text, and fields that say nothing.
 -- Assumes nothing.
-use Prim.Native.Nat.{ℕ}
-use mathlib.Core.Bool.{Bool, true, false, cond, _&&_, _||_}
+use Prim.Native.Nat.{ℕ, _+_}
+use mathlib.Core.Bool.{Bool, false, cond, _&&_, _||_}
 use mathlib.Core.List.{List, [], _∷_}
 use lib.Dec.{leb, eqb}
 use lib.ListN.{length}
@@ -52,3 +52,11 @@ isBlankOrZero = every spaceOrZero
 -- the list with s over its front, where there is room; else the list as it was
 unfoldable pub withBytes : List ℕ → List ℕ → List ℕ
 withBytes xs s = cond (leb (length s) (length xs)) (over xs 0 s) xs
+
+-- the list with s over it from a place on, where there is room; else the list as it was
+unfoldable pub withBytesAt : List ℕ → ℕ → List ℕ → List ℕ
+withBytesAt xs at s = cond (leb (at + length s) (length xs)) (over xs at s) xs
+
+-- the place after s, where there is room; else the place itself
+unfoldable pub afterBytes : List ℕ → ℕ → List ℕ → ℕ
+afterBytes xs at s = cond (leb (at + length s) (length xs)) (at + length s) at

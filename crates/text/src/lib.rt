@@ -2,7 +2,16 @@
 ghost use mathlib.Core.Path.{_≡_};
 ghost use lib.Dec.{leb};
 ghost use lib.ListN.{length};
-ghost use Rattle.text.specs.Text.{letter, isPlain, isText, isBlank, isBlankOrZero, withBytes};
+ghost use Rattle.text.specs.Text.{
+  letter,
+  isPlain,
+  isText,
+  isBlank,
+  isBlankOrZero,
+  withBytes,
+  withBytesAt,
+  afterBytes,
+};
 
 // Each byte is 20h to 7Eh (01, refusal 7). No branch on a byte, so that the compiler takes many at a time.
 pub fn is_plain(s: &[u8]) -> bool
@@ -109,4 +118,19 @@ pub fn put(out: &mut [u8], s: &[u8]) -> bool
         i += 1;
     }
     true
+}
+
+// The bytes at a place of what is lent, and the place after them. Where they don't fit, the answer is the place itself and
+// nothing is written.
+pub fn put_at(out: &mut [u8], at: usize, s: &[u8]) -> usize
+    ensures place { λ r. ⌜ r ≡ afterBytes (now (out .entry)) at (now (s .entry)) ⌝ }
+    ensures bytes { λ _. ⌜ now (out .exit) ≡ withBytesAt (now (out .entry)) at (now (s .entry)) ⌝ }
+{
+    if at > out.len() {
+        return at;
+    }
+    if !put(&mut out[at..], s) {
+        return at;
+    }
+    at + s.len()
 }

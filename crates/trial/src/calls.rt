@@ -6,14 +6,18 @@ use crate::show::put_lent;
 use crate::words::Given;
 use crate::words::least;
 use crate::words::size;
+use console::put_next;
+use judge::Session;
 use script::field;
-use script::put_number;
+
+// A byte more than a session has, so that a buffer can be too long.
+pub(crate) const SESSION: usize = packed::BYTES + 1;
 
 // The memory of a code table: one byte more than 01 lets a table have.
-const TABLE: usize = 10001;
+const TABLE: usize = Session::MOST + 1;
 
 // The memory of a session, with one byte too many.
-pub(crate) type Memory = [u8; 345];
+pub(crate) type Memory = [u8; SESSION];
 
 // The call of a letter on a text: j judges it whole, p by pieces of these lengths, r reads it, o, t and c are of the session.
 fn call(
@@ -61,7 +65,7 @@ fn shown(
     numbers: &mut [u64],
     id: &mut [u8],
 ) {
-    let end = least(size(344, g.sizes / 100), session.len());
+    let end = least(size(packed::BYTES, g.sizes / 100), session.len());
     let own = &mut session[0..end];
     let n = call(
         command,
@@ -139,13 +143,13 @@ pub(crate) fn stepped(
     let last = least(field(r, 11, 15) as usize, text.len());
     let first = least(field(r, 6, 10) as usize, last);
     called(command, &text[first..last], r, g, banks, known, session);
-    put_number(same_session(before, session));
+    put_next(same_session(before, session));
 }
 
 // A byte is put into the session: four digits its place, three the byte.
 pub(crate) fn put_byte(r: &[u8], session: &mut Memory) {
     let at = field(r, 0, 4) as usize;
-    if at >= 345 {
+    if at >= SESSION {
         return;
     }
     session[at] = (field(r, 5, 8) % 256) as u8;

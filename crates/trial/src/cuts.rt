@@ -5,8 +5,8 @@ use crate::pieces::by_pieces;
 use crate::same::same_bytes;
 use crate::show::put_lent;
 use crate::words::least;
+use console::put_next;
 use script::field;
-use script::put_number;
 
 // What a judging gave: its number, and what stands in numbers, identifier and table.
 struct Left {
@@ -36,7 +36,7 @@ fn in_two(
     banks: &[u32],
     known: &[u8],
 ) -> Left {
-    let mut session = [0u8; 344];
+    let mut session = [0u8; packed::BYTES];
     let mut table = [255u8; 25];
     let mut numbers = [255u64; 6];
     let mut id = [255u8; 25];
@@ -118,5 +118,5 @@ pub(crate) fn each_cut(message: &[u8], r: &[u8], day: u32, banks: &[u32], known:
     let id = first.id;
     let table = first.table;
     put_left(first.number, numbers, id, table, length);
-    put_number(agree(first, message, length, day, banks, known));
+    put_next(agree(first, message, length, day, banks, known));
 }

@@ -14,6 +14,7 @@ mod slip;
 mod words;
 
 use crate::calls::Memory;
+use crate::calls::SESSION;
 use crate::calls::called;
 use crate::calls::stepped;
 use crate::reply::replied;
@@ -21,15 +22,15 @@ use crate::words::Given;
 use crate::words::add;
 use crate::words::add_many;
 use crate::words::changed;
-use crate::words::fill;
 use crate::words::least;
+use console::put;
+use console::put_next;
 use libc::STDIN_FILENO;
 use script::end_of;
 use script::field;
-use script::put;
-use script::put_number;
+use script::fill;
 
-// The most bytes of the script, of the base text (10,001 items and more), of a text with changes, and of a reply.
+// Room for test data: the script; a base text, of 10,001 items and more; a text with changes; a reply to 10,000 items, and bytes after it.
 const SCRIPT: usize = 1048576;
 
 const BASE: usize = 2560000;
@@ -51,7 +52,7 @@ fn tried(
 ) {
     match command {
         b'j' => {
-            let mut own = [0u8; 345];
+            let mut own = [0u8; SESSION];
             called(b'j', text, r, g, banks, known, &mut own);
             put(b" p");
             called(b'p', text, r, g, banks, known, &mut own);
@@ -60,9 +61,7 @@ fn tried(
         b'w' => replied(text, r, g, banks, known, out, session),
         b'r' => called(command, text, r, g, banks, known, session),
         b'a' => cuts::each_cut(text, r, g.day, banks, known),
-        b's' => put_number(
-            nshanvekh::nsh_single(text, g.day, banks, known, field(r, 0, 10)) as u64,
-        ),
+        b's' => put_next(nshanvekh::nsh_single(text, g.day, banks, known, field(r, 0, 10)) as u64),
         b'f' => slip::print(text, r),
         _ => stepped(command, text, r, g, banks, known, session),
     }
@@ -224,6 +223,6 @@ fn main() {
     let mut space = [0u8; SCRIPT];
     let mut base = [0u8; BASE];
     let mut out = [0u8; REPLY];
-    let mut session = [0u8; 345];
+    let mut session = [0u8; SESSION];
     held(&mut space, &mut base, &mut out, &mut session);
 }

@@ -7,13 +7,13 @@ use crate::show::put_sums;
 use crate::words::Given;
 use crate::words::least;
 use crate::words::size;
-use script::put;
-use script::put_number;
+use console::put;
+use console::put_next;
 
 // What a writing told is shown: the length of the reply, 0 where it is refused.
 fn told(n: u32, numbers: &[u64]) -> usize {
     put(b" w");
-    put_number(n as u64);
+    put_next(n as u64);
     put_numbers(numbers);
     if n != 0 {
         return 0;

@@ -1,10 +1,10 @@
 // Answers on standard output, each number after a space.
-use script::put_number;
+use console::put_next;
 
 pub(crate) fn put_numbers(s: &[u64]) {
     let mut i = 0;
     while i < s.len() {
-        put_number(s[i]);
+        put_next(s[i]);
         i += 1;
     }
 }
@@ -19,13 +19,13 @@ pub(crate) fn put_sums(s: &[u8]) {
         all = std::num::wrapping_add_u64(all, sum);
         i += 1;
     }
-    put_number(sum);
-    put_number(all);
+    put_next(sum);
+    put_next(all);
 }
 
 // The number of a call, and what stands in the numbers, the identifier and the table that it was lent.
 pub(crate) fn put_lent(n: u32, numbers: &[u64], id: &[u8], table: &[u8]) {
-    put_number(n as u64);
+    put_next(n as u64);
     put_numbers(numbers);
     put_sums(id);
     put_sums(table);

@@ -1,11 +1,11 @@
 // What the slip program prints for files and a message, by the functions that it is made of (01, Examples).
 ghost use Rattle.io.specs.Counts.{Counts};
 use crate::words::ahead;
+use console::put;
 use files::Given;
 use judge::Session;
 use judge::Taken;
 use script::field;
-use script::put;
 
 // The most bytes of a piece.
 const PIECE: usize = 1000;
@@ -16,7 +16,7 @@ fn fed(start: Taken, message: &[u8], banks: &[u32], known: &[u8], table: &mut [u
     let mut i = 0;
     while i < message.len() {
         let end = ahead(i, PIECE, message.len());
-        t = desk::feed(t, &message[i..end], banks, known, table);
+        t = slips::feed(t, &message[i..end], banks, known, table);
         i = end;
     }
     t
@@ -29,7 +29,7 @@ fn judged(out: &mut [u8], day: u32, banks: &[u32], known: &[u8], message: &[u8])
     let mut table = [0u8; Session::MOST];
     let start = Session::open(day, &table);
     let t = fed(start, message, banks, known, &mut table);
-    desk::answer(out, t)
+    slips::answer(out, t)
 }
 
 // The slip, or the refusal of a file, at the front of the output.

@@ -21,7 +21,7 @@ pub(crate) struct Given {
 
 // The size of a buffer that is to have so many elements, by the last digit of a number: 0 one too few, 2 one too many, else right.
 pub(crate) fn size(right: usize, sign: u32) -> usize
-    requires { ⌜ (1 ≤ right) × (right ≤ 344) ⌝ }
+    requires { ⌜ (1 ≤ right) × (right ≤ 1000) ⌝ }
     ensures { λ r. ⌜ r ≤ right + 1 ⌝ }
 {
     match sign % 10 {
@@ -64,22 +64,6 @@ fn between(first: usize, place: usize, last: usize) -> usize
         return last;
     }
     place
-}
-
-// The numbers of ten digits each, as many as the list has room for: how many there are.
-pub(crate) fn fill(list: &mut [u32], s: &[u8]) -> usize
-    ensures { λ r. ⌜ Counts r (now (list .exit)) ⌝ }
-{
-    let mut i = 0;
-    while i < list.len() {
-        if i >= s.len() / 10 {
-            return i;
-        }
-        let at = i * 10;
-        list[i] = field(s, at, at + 10);
-        i += 1;
-    }
-    i
 }
 
 // Bytes are put into the memory from a place on, if there is room: the place after them.

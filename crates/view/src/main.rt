@@ -1,45 +1,31 @@
 // Shows the message on standard input record by record, for the support desk: each field by name, what is wrong with the record, and
 // at the end the verdict or the first break. The clearing day and the lists stand in the files `day`, `banks` and `known` of the
 // folder where it runs, as for the slip (01, Examples).
-ghost use Rattle.io.specs.Counts.{Counts};
-
 mod breaks;
 mod records;
 mod told;
 mod words;
 
-use crate::words::put;
 use crate::words::put_code;
-use crate::words::put_number;
+use console::put;
+use console::put_number;
+use console::read_file;
+use console::refuse;
 use files::Given;
+use files::SPACE;
+use frame::Closing;
 use frame::Record;
-use judge::Closing;
-use judge::Outcome;
+use frame::Totals;
 use judge::Session;
-use judge::Totals;
+use lent::Outcome;
 use libc::STDIN_FILENO;
+use libc::STDOUT_FILENO;
 
-// One byte more than a file may have, so that a longer one shows.
-const SPACE: usize = files::MOST + 1;
-
-// A message of 10,000 items: 176 + 10,000 * 251 + 26 bytes.
-const LONGEST: usize = 2510202;
+// A message with as many items as a table has codes.
+const LONGEST: usize = records::HEAD + records::ITEM * Session::MOST + records::FOOT;
 
 // One byte more, so that a longer message shows.
 const HELD: usize = LONGEST + 1;
-
-// A file's bytes at the front of the space, and how many; none of a file that is missing or can't be read.
-fn read_file(path: &[u8], space: &mut [u8]) -> usize
-    ensures { λ r. ⌜ Counts r (now (space .exit)) ⌝ }
-{
-    let fd = os::open_read(path);
-    if fd < 0 {
-        return 0;
-    }
-    let n = io::read_full(fd, space);
-    libc::close(fd);
-    n
-}
 
 // A walk: where the next record begins, what the items so far give, and whether it goes on.
 struct Walk {
@@ -170,27 +156,30 @@ fn put_closing(k: Closing) {
     put(b"\n");
 }
 
-fn put_refusal(r: findings::refusal::Refusal) {
-    put(b"REFUSAL ");
-    put_number(findings::refusal::number(r) as u64);
-    put(b"\n");
-}
-
 fn put_verdict(message: &[u8], day: u32, banks: &[u32], known: &[u8]) {
     let mut table = [0u8; Session::MOST];
     let j = message::judge(day, banks, known, &mut table, message);
     let o = j.outcome;
     let k = j.closing;
     match o {
-        Outcome::Refused(r) => put_refusal(r),
+        Outcome::Refused(r) => refuse(STDOUT_FILENO, r),
         Outcome::Done => put_closing(k),
     }
+}
+
+// Of a longer message nothing is shown.
+fn put_too_long() {
+    put(b"MESSAGE TOO LONG: over ");
+    put_number(LONGEST as u64);
+    put(b" bytes, the length of ");
+    put_number(Session::MOST as u64);
+    put(b" items; nothing is shown\n");
 }
 
 // The message is shown, if it is held as a whole.
 fn shown(message: &[u8], day: u32, banks: &[u32], known: &[u8]) {
     if message.len() > LONGEST {
-        put(b"MESSAGE TOO LONG: over 2510202 bytes, the length of 10000 items; nothing is shown\n");
+        put_too_long();
         return;
     }
     put_records(message, day, banks, known);
@@ -217,7 +206,7 @@ fn given(day: u32, banks: &[u32], known: &[u8]) {
 fn answered(day: &[u8], banks: &[u8], known: &[u8]) {
     let mut list = [0u32; files::BANKS];
     match files::read(day, banks, known, &mut list) {
-        Given::Refused(r) => put_refusal(r),
+        Given::Refused(r) => refuse(STDOUT_FILENO, r),
         Given::Files { day, banks } => given(day, &list[..banks], known),
     }
 }
@@ -230,7 +219,8 @@ fn read_files(day: &mut [u8], banks: &mut [u8], known: &mut [u8]) {
     answered(&day[..d], &banks[..b], &known[..k]);
 }
 
-fn lent(day: &mut [u8; SPACE], banks: &mut [u8; SPACE], known: &mut [u8; SPACE]) {
+// In the memory that is lent.
+fn read_files_in(day: &mut [u8; SPACE], banks: &mut [u8; SPACE], known: &mut [u8; SPACE]) {
     read_files(day, banks, known);
 }
 
@@ -238,5 +228,5 @@ fn main() {
     let mut day = [0u8; SPACE];
     let mut banks = [0u8; SPACE];
     let mut known = [0u8; SPACE];
-    lent(&mut day, &mut banks, &mut known);
+    read_files_in(&mut day, &mut banks, &mut known);
 }

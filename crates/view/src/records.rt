@@ -1,9 +1,17 @@
 // Records and their fields on standard output (01, Records).
 use crate::told;
 use crate::words::filled;
-use crate::words::put;
 use crate::words::put_field;
-use crate::words::put_number;
+use console::put;
+use console::put_number;
+use judge::Session;
+
+// The records' bytes with their endings.
+pub(crate) const HEAD: usize = Session::HEAD + 2;
+
+pub(crate) const ITEM: usize = Session::ITEM + 2;
+
+pub(crate) const FOOT: usize = Session::FOOT + 2;
 
 // The most bytes that a field of 70 bytes is shown by.
 const SHOWN: usize = 280;
@@ -73,7 +81,7 @@ fn named(numbers: &[usize], lasts: &[usize], i: usize) -> usize {
 fn head_field(i: usize) -> usize {
     named(
         &[1, 2, 3, 4, 6, 7, 8, 9, 10, 11, 12, 13],
-        &[2, 8, 9, 22, 30, 34, 42, 58, 66, 69, 104, 174],
+        &[2, 8, 9, 22, 30, 34, 42, 58, 66, 69, 104, Session::HEAD],
         i,
     )
 }
@@ -82,14 +90,14 @@ fn head_field(i: usize) -> usize {
 fn item_field(i: usize) -> usize {
     named(
         &[1, 14, 19, 15, 8, 9, 16, 12, 17, 18, 13],
-        &[2, 8, 16, 26, 34, 50, 74, 109, 144, 179, 249],
+        &[2, 8, 16, 26, 34, 50, 74, 109, 144, 179, Session::ITEM],
         i,
     )
 }
 
 // The fields of a foot.
 fn foot_field(i: usize) -> usize {
-    named(&[1, 20, 21], &[2, 8, 24], i)
+    named(&[1, 20, 21], &[2, 8, Session::FOOT], i)
 }
 
 // A record, by how many fields its kind has.
@@ -140,9 +148,9 @@ fn put_fields(r: &[u8], fields: usize) {
 // A head: its fields, and its answer.
 pub(crate) fn put_head(r: &[u8], day: u32, banks: &[u32], known: &[u8]) {
     put_fields(r, 12);
-    let h = heads::judge(r, day, banks, known);
+    let h = heads::found_in(r, day, banks, known);
     told::put_head(
-        single::number(single::judge(r, 0, day, banks, known)) as usize,
+        single::number(single::answer(r, 0, day, banks, known)) as usize,
         h.code,
     );
 }
@@ -150,9 +158,9 @@ pub(crate) fn put_head(r: &[u8], day: u32, banks: &[u32], known: &[u8]) {
 // The item at place k: its fields, its answer, and the zero watch; its amount.
 pub(crate) fn put_item(r: &[u8], k: u64, day: u32, banks: &[u32], known: &[u8]) -> u64 {
     put_fields(r, 11);
-    let f = atutal::item::judge(r, k, banks);
+    let f = atutal::item::found_in(r, k, banks);
     told::put_item(
-        single::number(single::judge(r, k, day, banks, known)) as usize,
+        single::number(single::answer(r, k, day, banks, known)) as usize,
         f.fault,
         f.code,
     );
@@ -175,7 +183,7 @@ fn put_given(count: u64, sum: u64) {
 pub(crate) fn put_foot(r: &[u8], count: u64, sum: u64) {
     put_fields(r, 3);
     put_given(count, sum);
-    match atutal::foot::judge(r, count, sum) {
+    match atutal::foot::code_in(r, count, sum) {
         0 => put(b"  no fault\n"),
         18 => put(
             b"  FAULT item count: not what the items give (code 18, the message is refused)\n",

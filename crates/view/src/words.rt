@@ -1,16 +1,8 @@
-// Words and numbers on standard output: kinds of fault (01, Calls and their answers) and the meaning of codes (docs/CODES.md).
+// Words on standard output: kinds of fault (01, Calls and their answers) and the meaning of codes (docs/CODES.md).
 // Words stand in tables, one to a line: a table costs a check what one word does.
 ghost use Prim.Native.Nat.{_≤_};
 ghost use lib.ListN.{length};
-use libc::STDOUT_FILENO;
-
-pub(crate) fn put(s: &[u8]) {
-    io::write_all(STDOUT_FILENO, s);
-}
-
-pub(crate) fn put_number(n: u64) {
-    io::print_decimal(STDOUT_FILENO, n);
-}
+use console::put;
 
 // A code, two digits.
 pub(crate) fn put_code(code: u8) {

@@ -3,14 +3,14 @@
 use mathlib.Core.Path.{_≡_, refl}
 use mathlib.Core.Bool.{Bool, true, false, cond, not, _&&_}
 use mathlib.Core.List.{List}
-use Prim.Native.Nat.{ℕ, zero, suc, _+_, _-_, _%_, _≤_, _<_}
+use Prim.Native.Nat.{ℕ, zero, suc, _+_, _≤_, _<_}
 use native.Mathlib.Omega.{arith}
 use lib.ListN.{length, drop, length-drop}
 use lib.Dec.{leb, ltb, eqb}
 use borrow.Author.Tests.{eqb-true}
 use Rattle.base.proofs.Every.{both}
-use Rattle.frame.specs.Records.{atutal, ended, isFoot, itemStands, footStands, headStands}
-use Rattle.frame.specs.Places.{laterAt, recordAt}
+use Rattle.frame.specs.Records.{lengths, headEnd, itemEnd, footEnd, ended, isFoot, itemStands, footStands, headStands}
+use Rattle.frame.specs.Places.{beyond, laterAt, recordAt}
 use Rattle.frame.specs.declared.Record.{Record}
 use Rattle.frame.specs.declared.Record.the-variants.{Head, Item, Foot, Break, End}
 use Rattle.frame.proofs.Uncut.{ended-long}
@@ -32,21 +32,21 @@ module _ (m : List ℕ) (at : ℕ) where
   by-test true r s p q = p refl
   by-test false r s p q = q refl
 
-  on-head : at ≡ 0 → headStands atutal m ≡ true → On (Head 0 176)
-  on-head z e h = let l = ended-long 174 m e in (omega arith, omega arith)
+  on-head : at ≡ 0 → headStands lengths m ≡ true → On (Head 0 headEnd)
+  on-head z e h = let l = ended-long (lengths .head) m e in (omega arith, omega arith)
 
-  on-item : itemStands atutal (drop at m) ≡ true → On (Item at (at + 251))
+  on-item : itemStands lengths (drop at m) ≡ true → On (Item at (at + itemEnd))
   on-item e h =
       let y = drop at m in
-      let l = ended-long 249 y (both (not (isFoot y)) (ended 249 y) e .1) in
+      let l = ended-long (lengths .item) y (both (not (isFoot y)) (ended (lengths .item) y) e .1) in
       (omega arith, omega (arith, length-drop at m))
 
-  on-foot : ltb 176 at && footStands atutal (drop at m) ≡ true → On (Foot at (at + 26))
+  on-foot : ltb headEnd at && footStands lengths (drop at m) ≡ true → On (Foot at (at + footEnd))
   on-foot e h =
       let y = drop at m in
-      let f = both (ltb 176 at) (footStands atutal y) e .1 in
-      let g = both (isFoot y) (ended 24 y && eqb (length y) 26) f .1 in
-      let l = ended-long 24 y (both (ended 24 y) (eqb (length y) 26) g .0) in
+      let f = both (ltb headEnd at) (footStands lengths y) e .1 in
+      let g = both (isFoot y) (ended (lengths .foot) y && eqb (length y) footEnd) f .1 in
+      let l = ended-long (lengths .foot) y (both (ended (lengths .foot) y) (eqb (length y) footEnd) g .0) in
       (omega arith, omega (arith, length-drop at m))
 
   on-break : On Break
@@ -58,17 +58,18 @@ module _ (m : List ℕ) (at : ℕ) where
   on-later : On (laterAt m at)
   unfolding laterAt
   on-later =
-      by-test (itemStands atutal (drop at m)) (Item at (at + 251)) (cond (ltb 176 at && footStands atutal (drop at m)) (Foot at (at + 26)) Break) on-item
-      (λ _. by-test (ltb 176 at && footStands atutal (drop at m)) (Foot at (at + 26)) Break on-foot (λ _. on-break))
+      let foot = ltb headEnd at && footStands lengths (drop at m) in
+      by-test (itemStands lengths (drop at m)) (Item at (at + itemEnd)) (cond foot (Foot at (at + footEnd)) Break) on-item
+      (λ _. by-test foot (Foot at (at + footEnd)) Break on-foot (λ _. on-break))
 
   on-record : On (recordAt m at)
   unfolding recordAt
   on-record =
-      by-test (eqb at 0) (cond (headStands atutal m) (Head 0 176) Break) _
-      (λ z. by-test (headStands atutal m) (Head 0 176) Break (on-head (eqb-true at 0 z)) (λ _. on-break))
-      (λ _. by-test (leb 176 at && leb at (length m)) _ Break
-      (λ _. by-test (eqb ((at - 176) % 251) 0) (laterAt m at) _ (λ _. on-later)
-      (λ _. by-test (eqb at (length m) && eqb ((at - 176) % 251) 26) End Break (λ _. on-end) (λ _. on-break)))
+      by-test (eqb at 0) (cond (headStands lengths m) (Head 0 headEnd) Break) _
+      (λ z. by-test (headStands lengths m) (Head 0 headEnd) Break (on-head (eqb-true at 0 z)) (λ _. on-break))
+      (λ _. by-test (leb headEnd at && leb at (length m)) _ Break
+      (λ _. by-test (eqb (beyond at) 0) (laterAt m at) _ (λ _. on-later)
+      (λ _. by-test (eqb at (length m) && eqb (beyond at) footEnd) End Break (λ _. on-end) (λ _. on-break)))
       (λ _. on-break))
 
   pub onward : (nextAt m at ≡ at → ⊥) → (at < nextAt m at) × (nextAt m at ≤ length m)

@@ -1,21 +1,18 @@
 -- The walk by `after` from `new`: the k-th record that it meets is the k-th of the cut, and its bytes are those that the cut has.
 -- Assumes nothing.
 use mathlib.Core.Path.{_≡_, refl, sym, ap, _∙_}
-use mathlib.Core.Bool.{Bool, true, false, cond, not, _&&_}
+use mathlib.Core.Bool.{Bool, true, false, cond}
 use mathlib.Core.List.{List, [], _∷_, _++_}
-use Prim.Native.Nat.{ℕ, zero, suc, _+_, _-_, _*_, _<_}
+use Prim.Native.Nat.{ℕ, zero, suc, _+_, _-_, _<_}
 use native.Mathlib.Omega.{arith}
 use lib.ListN.{length, getD, take, drop}
-use lib.Seq.{drop-drop}
-use lib.Dec.{ltb}
 use denote.Ref.{RefT, now}
-use Rattle.base.proofs.Every.{both}
-use Rattle.frame.specs.Records.{atutal, itemsIn, footStands, headStands, headOf, itemsOf, restOf, footOf, isBroken}
-use Rattle.frame.specs.Places.{recordAt}
+use Rattle.frame.specs.Records.{lengths, headEnd, itemEnd, footEnd, itemsIn, headStands, headOf, itemsOf, footOf, isBroken}
+use Rattle.frame.specs.Places.{place, recordAt}
 use Rattle.frame.specs.declared.Record.{Record}
 use Rattle.frame.specs.declared.Record.the-variants.{Head, Item, Foot, End}
 use Rattle.frame.proofs.Places as places
-use Rattle.viewer.specs.Walk.{place, itemRecords, closingRecords, recordsOf, kth, bytesOf}
+use Rattle.viewer.specs.Walk.{itemRecords, closingRecords, recordsOf, kth, bytesOf}
 use Rattle.viewer.specs.Views.{begun, met, moved, walked}
 use Rattle.viewer.specs.declared.View.{View}
 use Rattle.viewer.proofs.Walk.{goneOn, at-kth}
@@ -37,83 +34,78 @@ kth-first r (s ∷ rs) = refl
 
 -- after one record, the k-th item, and what follows the items
 kth-item : (h : Record) (j : ℕ) (rs : List (List ℕ)) (tail : List Record) (k : ℕ) → k < length rs
-    → kth (h ∷ (itemRecords j rs ++ tail)) (suc k) ≡ Item (place (j + k)) (place (j + k) + 251)
+    → kth (h ∷ (itemRecords j rs ++ tail)) (suc k) ≡ Item (place (j + k)) (place (j + k) + itemEnd)
 unfolding kth itemRecords
 kth-item h j [] tail k i = absurd (omega arith)
-kth-item h j (r ∷ rs) tail zero i = let z : j + 0 ≡ j = omega arith in rw z (kth-first (Item (place j) (place j + 251)) (itemRecords (j + 1) rs ++ tail))
+kth-item h j (r ∷ rs) tail zero i = let z : j + 0 ≡ j = omega arith in rw z (kth-first (Item (place j) (place j + itemEnd)) (itemRecords (j + 1) rs ++ tail))
 kth-item h j (r ∷ rs) tail (suc k) i =
     let z : j + suc k ≡ j + 1 + k = omega arith in
-    rw z (kth-item (Item (place j) (place j + 251)) (j + 1) rs tail k (omega arith))
+    rw z (kth-item (Item (place j) (place j + itemEnd)) (j + 1) rs tail k (omega arith))
 
 kth-past : (h : Record) (j : ℕ) (rs : List (List ℕ)) (t : Record) (ts : List Record) → kth (h ∷ (itemRecords j rs ++ (t ∷ ts))) (suc (length rs)) ≡ t
 unfolding kth itemRecords
 kth-past h j [] t ts = kth-first t ts
-kth-past h j (r ∷ rs) t ts = kth-past (Item (place j) (place j + 251)) (j + 1) rs t ts
+kth-past h j (r ∷ rs) t ts = kth-past (Item (place j) (place j + itemEnd)) (j + 1) rs t ts
 
 module _ (m : List ℕ) where
   abbrev n : ℕ
-  n = length (itemsOf atutal m)
+  n = length (itemsOf lengths m)
 
   abbrev closing : List Record
-  closing = closingRecords (isBroken atutal m) n
+  closing = closingRecords (isBroken lengths m) n
 
-  begins : headStands atutal m ≡ true → recordsOf m ≡ Head 0 176 ∷ (itemRecords 0 (itemsOf atutal m) ++ closing)
+  begins : headStands lengths m ≡ true → recordsOf m ≡ Head 0 headEnd ∷ (itemRecords 0 (itemsOf lengths m) ++ closing)
   unfolding recordsOf
   begins e = rw e
 
   -- where there is an item, the head stands
-  headed : (k : ℕ) → k < n → headStands atutal m ≡ true
-  headed k i = go (headStands atutal m) refl i
+  headed : (k : ℕ) → k < n → headStands lengths m ≡ true
+  headed k i = go (headStands lengths m) refl i
     where
-      go : (b : Bool) → headStands atutal m ≡ b → k < length (cond b (itemsIn atutal (length m) (drop 176 m)) []) → headStands atutal m ≡ true
+      go : (b : Bool) → headStands lengths m ≡ b → k < length (cond b (itemsIn lengths (length m) (drop headEnd m)) []) → headStands lengths m ≡ true
       go true e i = e
       go false e i = absurd (omega arith)
 
-  -- so it does where there is no break
-  whole : isBroken atutal m ≡ false → headStands atutal m ≡ true
-  whole b = both (headStands atutal m) (ltb 0 n && footStands atutal (restOf atutal m)) (yes _ b) .0
-    where
-      yes : (t : Bool) → not t ≡ false → t ≡ true
-      yes true q = refl
-      yes false q = sym q
-
-  third : isBroken atutal m ≡ false → closing ≡ Foot (place n) (place n + 26) ∷ End ∷ []
+  third : isBroken lengths m ≡ false → closing ≡ Foot (place n) (place n + footEnd) ∷ End ∷ []
   unfolding closingRecords
   third b = rw b
-
-  rest-is : headStands atutal m ≡ true → restOf atutal m ≡ drop (place n) m
-  rest-is e =
-      let i : itemsOf atutal m ≡ itemsIn atutal (length m) (drop 176 m) = rw e in
-      places.rest-place atutal (length m) (drop 176 m)
-      ∙ drop-drop (length (itemsIn atutal (length m) (drop 176 m)) * 251) 176 m
-      ∙ ap (λ (l : List (List ℕ)). drop (place (length l)) m) (sym i)
 
 -- the bytes of the head, of the k-th item and of the foot, as the walk meets them
 module _ (s : RefT (List ℕ)) where
   abbrev m : List ℕ
   m = now s
 
-  pub head-bytes : headStands atutal m ≡ true → bytesOf m (met (walked 0 (begun s))) ≡ headOf atutal m
-  head-bytes e = ap (bytesOf m) (walk s 0 ∙ ap (λ (l : List Record). kth l 0) (begins m e) ∙ kth-first (Head 0 176) _)
+  abbrev is : List (List ℕ)
+  is = itemsOf lengths m
 
-  pub item-met : (k : ℕ) → k < length (itemsOf atutal m) → met (walked (suc k) (begun s)) ≡ Item (place k) (place k + 251)
+  pub head-bytes : headStands lengths m ≡ true → bytesOf m (met (walked 0 (begun s))) ≡ headOf lengths m
+  head-bytes e = ap (bytesOf m) (walk s 0 ∙ ap (λ (l : List Record). kth l 0) (begins m e) ∙ kth-first (Head 0 headEnd) _)
+
+  pub item-met : (k : ℕ) → k < length is → met (walked (suc k) (begun s)) ≡ Item (place k) (place k + itemEnd)
   item-met k i =
       let z : 0 + k ≡ k = omega arith in
-      walk s (suc k) ∙ ap (λ (l : List Record). kth l (suc k)) (begins m (headed m k i)) ∙ (rw z at (kth-item (Head 0 176) 0 (itemsOf atutal m) (closing m) k i))
+      let it = kth-item (Head 0 headEnd) 0 is (closing m) k i in
+      walk s (suc k) ∙ ap (λ (l : List Record). kth l (suc k)) (begins m (headed m k i)) ∙ (rw z at it)
 
-  pub item-bytes : (k : ℕ) → k < length (itemsOf atutal m) → bytesOf m (met (walked (suc k) (begun s))) ≡ getD (itemsOf atutal m) k []
+  pub item-bytes : (k : ℕ) → k < length is → bytesOf m (met (walked (suc k) (begun s))) ≡ getD is k []
   item-bytes k i =
-      let z : place k + 251 - place k - 2 ≡ 249 = omega arith in
+      let z : place k + itemEnd - place k - 2 ≡ lengths .item = omega arith in
       ap (bytesOf m) (item-met k i) ∙ ap (λ (a : ℕ). take a (drop (place k) m)) z ∙ sym (places.at-item m (headed m k i) k i .1)
 
-  pub foot-met : isBroken atutal m ≡ false → met (walked (suc (length (itemsOf atutal m))) (begun s)) ≡ Foot (place (length (itemsOf atutal m))) (place (length (itemsOf atutal m)) + 26)
-  foot-met b =
-      walk s (suc (n m))
-      ∙ ap (λ (l : List Record). kth l (suc (n m))) (begins m (whole m b))
-      ∙ ap (λ (l : List Record). kth (Head 0 176 ∷ (itemRecords 0 (itemsOf atutal m) ++ l)) (suc (n m))) (third m b)
-      ∙ kth-past (Head 0 176) 0 (itemsOf atutal m) (Foot (place (n m)) (place (n m) + 26)) (End ∷ [])
+  -- the foot stands where the items end
+  abbrev there : ℕ
+  there = place (length is)
 
-  pub foot-bytes : isBroken atutal m ≡ false → bytesOf m (met (walked (suc (length (itemsOf atutal m))) (begun s))) ≡ footOf atutal m
+  pub foot-met : isBroken lengths m ≡ false → met (walked (suc (length is)) (begun s)) ≡ Foot there (there + footEnd)
+  foot-met b =
+      let k = suc (length is) in
+      walk s k
+      ∙ ap (λ (l : List Record). kth l k) (begins m (places.unbroken m b .head))
+      ∙ ap (λ (l : List Record). kth (Head 0 headEnd ∷ (itemRecords 0 is ++ l)) k) (third m b)
+      ∙ kth-past (Head 0 headEnd) 0 is (Foot there (there + footEnd)) (End ∷ [])
+
+  pub foot-bytes : isBroken lengths m ≡ false → bytesOf m (met (walked (suc (length is)) (begun s))) ≡ footOf lengths m
   foot-bytes b =
-      let z : place (n m) + 26 - place (n m) - 2 ≡ 24 = omega arith in
-      ap (bytesOf m) (foot-met b) ∙ ap (λ (a : ℕ). take a (drop (place (n m)) m)) z ∙ sym (ap (take 24) (rest-is m (whole m b)))
+      let z : there + footEnd - there - 2 ≡ lengths .foot = omega arith in
+      let rest = places.rest-is m (places.unbroken m b .head) in
+      ap (bytesOf m) (foot-met b) ∙ ap (λ (a : ℕ). take a (drop there m)) z ∙ sym (ap (take (lengths .foot)) rest)

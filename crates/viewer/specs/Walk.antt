@@ -1,31 +1,28 @@
 -- The records that a walk over an ATUTAL message meets (01, Records), as the cut has them.
 -- Assumes nothing.
-use Prim.Native.Nat.{ℕ, zero, suc, _+_, _-_, _*_}
+use Prim.Native.Nat.{ℕ, zero, suc, _+_, _-_}
 use mathlib.Core.Bool.{Bool, cond}
 use mathlib.Core.List.{List, [], _∷_, _++_}
 use lib.ListN.{length, take, drop}
-use Rattle.frame.specs.Records.{atutal, headStands, itemsOf, isBroken}
+use Rattle.frame.specs.Records.{lengths, headEnd, itemEnd, footEnd, headStands, itemsOf, isBroken}
+use Rattle.frame.specs.Places.{place}
 use Rattle.frame.specs.declared.Record.{Record}
 use Rattle.frame.specs.declared.Record.the-variants.{Head, Item, Foot, Break, End}
-
--- where the record after the head and k items begins
-abbrev pub place : ℕ → ℕ
-place k = 176 + k * 251
 
 -- an Item for each complete item, of which the first is the k-th
 unfoldable pub itemRecords : ℕ → List (List ℕ) → List Record
 itemRecords k [] = []
-itemRecords k (r ∷ rs) = Item (place k) (place k + 251) ∷ itemRecords (k + 1) rs
+itemRecords k (r ∷ rs) = Item (place k) (place k + itemEnd) ∷ itemRecords (k + 1) rs
 
 -- after n items: the foot and the end, or the first break
 unfoldable pub closingRecords : Bool → ℕ → List Record
-closingRecords broken n = cond broken (Break ∷ []) (Foot (place n) (place n + 26) ∷ End ∷ [])
+closingRecords broken n = cond broken (Break ∷ []) (Foot (place n) (place n + footEnd) ∷ End ∷ [])
 
 -- the head, the complete items, then the foot and the end; a break ends the walk
 unfoldable pub recordsOf : List ℕ → List Record
 recordsOf m =
-    cond (headStands atutal m)
-    (Head 0 176 ∷ (itemRecords 0 (itemsOf atutal m) ++ closingRecords (isBroken atutal m) (length (itemsOf atutal m))))
+    cond (headStands lengths m)
+    (Head 0 headEnd ∷ (itemRecords 0 (itemsOf lengths m) ++ closingRecords (isBroken lengths m) (length (itemsOf lengths m))))
     (Break ∷ [])
 
 -- the k-th of them, from 0, and the last one for every k beyond; there is always one

@@ -56,13 +56,22 @@ all-zero-requires : tie.Need-all-zero-requires
 all-zero-requires c κs = search needs
 
 returns-2 : tie.Need-returns-2
-returns-2 c = short (c .before .before .before .before .before .before .before .args .s .now) (c .before .before .before .before .before .if1 .left) (sym (c .before .before .before .is-blank .ensures) ∙ c .before .before .if2 .taken) (c .all-zero .result) (c .all-zero .ensures)
+returns-2 c =
+    let c1 = c .before .before in
+    let c2 = c1 .before in
+    let c3 = c2 .before .before in
+    let c4 = c3 .before .before in
+    short (c4 .args .s .now) (c3 .if1 .left) (sym (c2 .is-blank .ensures) ∙ c1 .if2 .taken) (c .all-zero .result) (c .all-zero .ensures)
 
 all-zero-requires-2 : tie.Need-all-zero-requires-2
 all-zero-requires-2 c κs = search needs
 
 returns-3 : tie.Need-returns-3
-returns-3 c = full (c .before .before .before .before .before .before .args .s .now) (c .before .before .before .before .if1 .left) (sym (c .before .before .is-blank .ensures) ∙ c .before .if2 .left) (c .all-zero2 .result) (c .all-zero2 .ensures)
+returns-3 c =
+    let c1 = c .before .before in
+    let c2 = c1 .before .before in
+    let c3 = c2 .before .before in
+    full (c3 .args .s .now) (c2 .if1 .left) (sym (c1 .is-blank .ensures) ∙ c .before .if2 .left) (c .all-zero2 .result) (c .all-zero2 .ensures)
 
 pub is-zero-spec : {M : Type 1} → statement M
 is-zero-spec =

@@ -1,7 +1,7 @@
 -- `account::read` meets its contract: a space at place 9 leaves eight digits, or no account.
 -- Assumes nothing.
 use mathlib.Core.Path.{_≡_, sym, _∙_}
-use mathlib.Core.Bool.{Bool, true, false}
+use mathlib.Core.Bool.{true, false}
 use mathlib.Core.List.{List}
 use Prim.Native.Nat.{ℕ}
 use native.Mathlib.Omega.{arith}
@@ -10,10 +10,10 @@ use borrow.Author.Tests.{eq-eqb, ne-eqb, not-true, not-false}
 use Rattle.base.proofs.Walk.{step}
 use Rattle.base.proofs.Every.{fails}
 use Rattle.text.specs.Text.{isBlank}
-use Rattle.digits.specs.Digits.{digit, isDigits}
-use Rattle.account.specs.Account.{judged, accountOf}
+use Rattle.digits.specs.Digits.{digit}
+use Rattle.account.specs.Account.{digitsFound, accountOf}
 use Rattle.account.specs.declared.Account.{Account}
-use Rattle.account.specs.declared.Account.the-variants.{Good, Form, CheckDigit}
+use Rattle.account.specs.declared.Account.the-variants.{Form}
 use Rattle.account.proofs.Halves.{half}
 use borrow.Author.Needs.{needs}
 use Rattle.account.proofs.read.Statement.{statement}
@@ -31,11 +31,11 @@ module _ (s : List ℕ) where
         let d : digit (getD s 8 0) ≡ false = simp e in
         simp (eq-eqb (length s) 16 h, half s h b, fails digit s 8 (omega arith) d)
 
-    short : isBlank (take 8 (drop 8 s)) ≡ true → (r : Account) → r ≡ judged (take 8 s) → r ≡ accountOf s
+    short : isBlank (take 8 (drop 8 s)) ≡ true → (r : Account) → r ≡ digitsFound (take 8 s) → r ≡ accountOf s
     unfolding accountOf
     short b r e = simp (eq-eqb (length s) 16 h, half s h b) e
 
-    full : (getD s 8 0 ≡ 32 → ⊥) → (r : Account) → r ≡ judged s → r ≡ accountOf s
+    full : (getD s 8 0 ≡ 32 → ⊥) → (r : Account) → r ≡ digitsFound s → r ≡ accountOf s
     unfolding accountOf
     full f r e =
         let b : isBlank (drop 8 s) ≡ false = simp (step s 8 (omega arith), ne-eqb (getD s 8 0) 32 f) in
@@ -60,28 +60,40 @@ is-blank-requires : tie.Need-is-blank-requires
 is-blank-requires c κs = search needs
 
 returns-2 : tie.Need-returns-2
-returns-2 c = mixed (c .before .before .before .before .before .before .before .args .s .now) (c .before .before .before .before .before .if1 .left) (c .before .before .before .if2 .taken) (sym (c .before .is-blank .ensures) ∙ not-true _ (c .if3 .taken))
+returns-2 c =
+    let c1 = c .before .before .before in
+    let c2 = c1 .before .before in
+    let c3 = c2 .before .before in
+    mixed (c3 .args .s .now) (c2 .if1 .left) (c1 .if2 .taken) (sym (c .before .is-blank .ensures) ∙ not-true _ (c .if3 .taken))
 
-sub-judge : tie.Need-sub-judge
-sub-judge c = search needs
+sub-digits-found : tie.Need-sub-digits-found
+sub-digits-found c = search needs
 
-part-judge-start : tie.Need-part-judge-start
-part-judge-start c = search needs
+part-digits-found-start : tie.Need-part-digits-found-start
+part-digits-found-start c = search needs
 
-part-judge-end : tie.Need-part-judge-end
-part-judge-end c = search needs
+part-digits-found-end : tie.Need-part-digits-found-end
+part-digits-found-end c = search needs
 
-judge-requires : tie.Need-judge-requires
-judge-requires c κs = search needs
+digits-found-requires : tie.Need-digits-found-requires
+digits-found-requires c κs = search needs
 
 returns-3 : tie.Need-returns-3
-returns-3 c = short (c .before .before .before .before .before .before .before .before .before .args .s .now) (c .before .before .before .before .before .before .before .if1 .left) (sym (c .before .before .before .is-blank .ensures) ∙ not-false _ (c .before .before .if3 .left)) (c .judge .result) (c .judge .ensures)
+returns-3 c =
+    let c1 = c .before .before in
+    let c2 = c1 .before in
+    let c3 = c2 .before .before .before .before in
+    let c4 = c3 .before .before in
+    short (c4 .args .s .now) (c3 .if1 .left) (sym (c2 .is-blank .ensures) ∙ not-false _ (c1 .if3 .left)) (c .digits-found .result) (c .digits-found .ensures)
 
-judge-requires-2 : tie.Need-judge-requires-2
-judge-requires-2 c κs = search needs
+digits-found-requires-2 : tie.Need-digits-found-requires-2
+digits-found-requires-2 c κs = search needs
 
 returns-4 : tie.Need-returns-4
-returns-4 c = full (c .before .before .before .before .before .args .s .now) (c .before .before .before .if1 .left) (c .before .if2 .left) (c .judge2 .result) (c .judge2 .ensures)
+returns-4 c =
+    let c1 = c .before .before .before in
+    let c2 = c1 .before .before in
+    full (c2 .args .s .now) (c1 .if1 .left) (c .before .if2 .left) (c .digits-found2 .result) (c .digits-found2 .ensures)
 
 pub read-spec : {M : Type 1} → statement M
 read-spec =
@@ -94,10 +106,10 @@ read-spec =
     part-is-blank-end
     is-blank-requires
     returns-2
-    sub-judge
-    part-judge-start
-    part-judge-end
-    judge-requires
+    sub-digits-found
+    part-digits-found-start
+    part-digits-found-end
+    digits-found-requires
     returns-3
-    judge-requires-2
+    digits-found-requires-2
     returns-4)

@@ -48,13 +48,19 @@ sub-result : tie.Need-sub-result
 sub-result c = search needs
 
 returns-2 : tie.Need-returns-2
-returns-2 c = (late (c .before .before .args .is-leap) (c .before .before .args .m) (c .before .before .pre) (c .before .if1 .left) true (c .if2 .taken), omega arith)
+returns-2 c =
+    let first = c .before in
+    let a = first .before .args in
+    (late (a .is-leap) (a .m) (first .before .pre) (first .if1 .left) true (c .if2 .taken), omega arith)
 
 sub-result-2 : tie.Need-sub-result-2
 sub-result-2 c = search needs
 
 returns-3 : tie.Need-returns-3
-returns-3 c = (late (c .before .before .args .is-leap) (c .before .before .args .m) (c .before .before .pre) (c .before .if1 .left) false (c .if2 .left), omega arith)
+returns-3 c =
+    let first = c .before in
+    let a = first .before .args in
+    (late (a .is-leap) (a .m) (first .before .pre) (first .if1 .left) false (c .if2 .left), omega arith)
 
 pub days-of-months-spec : {M : Type 1} → statement M
 days-of-months-spec =

@@ -56,7 +56,9 @@ add-result-4 c =
     omega arith
 
 returns : tie.Need-returns
-returns c = is (c .before .before .args .n) (c .before .is-leap .result) (c .before .is-leap .ensures) (c .days-of-months .result) (c .days-of-months .ensures .0)
+returns c =
+    let c1 = c .before .before in
+    is (c1 .args .n) (c .before .is-leap .result) (c .before .is-leap .ensures) (c .days-of-months .result) (c .days-of-months .ensures .0)
 
 pub days-to-spec : {M : Type 1} → statement M
 days-to-spec =

@@ -34,13 +34,17 @@ is-date-requires-2 c κs = search needs
 
 returns-2 : tie.Need-returns-2
 returns-2 c =
-    let b = c .before .before in
-    no-second (b .before .before .args .a) (b .before .before .args .b) (yes (b .before .is-date .ensures) (b .if1 .left)) (no (c .before .is-date2 .ensures) (c .if2 .taken))
+    let c1 = c .before .before in
+    let c2 = c1 .before in
+    let c3 = c2 .before in
+    no-second (c3 .args .a) (c3 .args .b) (yes (c2 .is-date .ensures) (c1 .if1 .left)) (no (c .before .is-date2 .ensures) (c .if2 .taken))
 
 returns-3 : tie.Need-returns-3
 returns-3 c =
-    let b = c .before .before in
-    is (b .before .before .args .a) (b .before .before .args .b) (yes (b .before .is-date .ensures) (b .if1 .left)) (yes (c .before .is-date2 .ensures) (c .if2 .left))
+    let c1 = c .before .before in
+    let c2 = c1 .before in
+    let c3 = c2 .before in
+    is (c3 .args .a) (c3 .args .b) (yes (c2 .is-date .ensures) (c1 .if1 .left)) (yes (c .before .is-date2 .ensures) (c .if2 .left))
 
 pub is-before-spec : {M : Type 1} → statement M
 is-before-spec =

@@ -47,7 +47,11 @@ returns-3 : tie.Need-returns-3
 returns-3 c = no-month (c .before .before .before .args .n) (c .before .before .if1 .left) (c .before .if2 .left) (c .if3 .taken)
 
 returns-4 : tie.Need-returns-4
-returns-4 c = past-month (c .before .before .before .before .args .n) (c .before .before .before .if1 .left) (c .before .before .if2 .left) (c .before .if3 .left) (c .if4 .taken)
+returns-4 c =
+    let third = c .before in
+    let second = third .before in
+    let first = second .before in
+    past-month (first .before .args .n) (first .if1 .left) (second .if2 .left) (third .if3 .left) (c .if4 .taken)
 
 is-leap-requires : tie.Need-is-leap-requires
 is-leap-requires c κs = search needs
@@ -57,8 +61,11 @@ month-length-requires c κs = search needs
 
 returns-5 : tie.Need-returns-5
 returns-5 c =
-    let b = c .before .before in
-    days (b .before .before .before .before .args .n) (b .before .before .before .if1 .left) (b .before .before .if2 .left) (b .before .if3 .left) (b .if4 .left)
+    let fourth = c .before .before in
+    let third = fourth .before in
+    let second = third .before in
+    let first = second .before in
+    days (first .before .args .n) (first .if1 .left) (second .if2 .left) (third .if3 .left) (fourth .if4 .left)
     (c .before .is-leap .result) (c .before .is-leap .ensures) (c .month-length .result) (c .month-length .ensures)
 
 pub is-date-spec : {M : Type 1} → statement M

@@ -10,33 +10,33 @@ use borrow.Author.Tests.{eq-eqb, ne-eqb}
 use Rattle.digits.specs.Digits.{isDigits, numberOf}
 use Rattle.digits.proofs.Value.{number-lt}
 use Rattle.calendar.specs.Calendar.{isDate}
-use Rattle.calendar.specs.Reading.{readingOf}
-use Rattle.calendar.specs.declared.Reading.the-variants.{Date, NotDigits, NoDate}
+use Rattle.calendar.specs.DateField.{dateField}
+use Rattle.calendar.specs.declared.DateField.the-variants.{Date, NotDigits, NoDate}
 use Rattle.calendar.proofs.Dates.{no, yes}
 use borrow.Author.Needs.{needs}
 use Rattle.calendar.proofs.read_date.Statement.{statement}
 use Rattle.calendar.proofs.read_date.Tie as tie
 
 module _ (s : List ℕ) where
-  not-eight : (length s ≡ 8 → ⊥) → NotDigits ≡ readingOf s
-  unfolding readingOf
+  not-eight : (length s ≡ 8 → ⊥) → NotDigits ≡ dateField s
+  unfolding dateField
   not-eight f = simp (ne-eqb (length s) 8 f)
 
   module _ (h : length s ≡ 8) where
-    no-digits : isDigits s ≡ false → NotDigits ≡ readingOf s
-    unfolding readingOf
+    no-digits : isDigits s ≡ false → NotDigits ≡ dateField s
+    unfolding dateField
     no-digits e = simp (eq-eqb (length s) 8 h, e)
 
     small : numberOf s < 100000000
     small = subst (λ (w : ℕ). numberOf s < 10 ^ w) h (number-lt s)
 
     module _ (e : isDigits s ≡ true) (n : ℕ) (f : n ≡ numberOf s) where
-      a-date : isDate n ≡ true → Date n ≡ readingOf s
-      unfolding readingOf
+      a-date : isDate n ≡ true → Date n ≡ dateField s
+      unfolding dateField
       a-date d = let g : isDate (numberOf s) ≡ true = ap isDate (sym f) ∙ d in simp (eq-eqb (length s) 8 h, e, g) (ap Date f)
 
-      no-date : isDate n ≡ false → NoDate ≡ readingOf s
-      unfolding readingOf
+      no-date : isDate n ≡ false → NoDate ≡ dateField s
+      unfolding dateField
       no-date d = let g : isDate (numberOf s) ≡ false = ap isDate (sym f) ∙ d in simp (eq-eqb (length s) 8 h, e, g)
 
 returns : tie.Need-returns

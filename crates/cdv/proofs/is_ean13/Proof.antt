@@ -1,12 +1,11 @@
 -- `cdv::is_ean13` meets its contract: one digit at a time, the sum stays small.
 -- Assumes nothing.
-use mathlib.Core.Path.{_≡_, refl, sym, ap, _∙_}
+use mathlib.Core.Path.{_≡_, refl, sym, _∙_}
 use mathlib.Core.Bool.{Bool, false}
 use mathlib.Core.List.{List, [], _∷_}
 use Prim.Native.Nat.{ℕ, zero, suc, _+_, _-_, _*_, _%_, _≤_, _<_}
 use native.Mathlib.Omega.{arith}
-use lib.Dec.{eqb}
-use lib.ListN.{length, getD, drop}
+use lib.ListN.{length, getD}
 use borrow.Author.Tests.{eq-eqb, ne-eqb, not-true, not-false}
 use Rattle.cdv.specs.Check.{gs1, balanced, isEan13}
 use Rattle.digits.proofs.Digit.{is-digit}
@@ -53,7 +52,11 @@ is-digit-requires : tie.Need-is-digit-requires Inv-loop μ-loop
 is-digit-requires c κs = search needs
 
 returns-2 : tie.Need-returns-2 Inv-loop μ-loop
-returns-2 c = is-ean (c .before .before .before .before .before .before .before .args .s .now) _ (c .before .before .before .before .before .if1 .left) (no (c .before .before .before .before .loop .inv .walked) (omega arith) (sym (c .before .is-digit .ensures) ∙ not-true _ (c .if2 .taken)))
+returns-2 c =
+    let c1 = c .before .before .before .before in
+    let c2 = c1 .before in
+    let c3 = c2 .before .before in
+    is-ean (c3 .args .s .now) _ (c2 .if1 .left) (no (c1 .loop .inv .walked) (omega arith) (sym (c .before .is-digit .ensures) ∙ not-true _ (c .if2 .taken)))
 
 mul-sum : tie.Need-mul-sum Inv-loop μ-loop
 mul-sum c = search needs
@@ -62,16 +65,36 @@ add-sum : tie.Need-add-sum Inv-loop μ-loop
 add-sum c = search needs
 
 sub-sum : tie.Need-sub-sum Inv-loop μ-loop
-sub-sum c = omega (arith, is-digit (getD (c .before .before .before .before .before .before .before .args .s .now) (c .before .before .before .before .loop .i) 0) (sym (c .before .is-digit .ensures) ∙ not-false _ (c .if2 .left)))
+sub-sum c =
+    let c1 = c .before .before .before .before in
+    let c2 = c1 .before .before .before in
+    omega (arith, is-digit (getD (c2 .args .s .now) (c1 .loop .i) 0) (sym (c .before .is-digit .ensures) ∙ not-false _ (c .if2 .left)))
 
 cast-sum : tie.Need-cast-sum Inv-loop μ-loop
-cast-sum c = omega (arith, is-digit (getD (c .before .before .before .before .before .before .before .args .s .now) (c .before .before .before .before .loop .i) 0) (sym (c .before .is-digit .ensures) ∙ not-false _ (c .if2 .left)))
+cast-sum c =
+    let c1 = c .before .before .before .before in
+    let c2 = c1 .before .before .before in
+    omega (arith, is-digit (getD (c2 .args .s .now) (c1 .loop .i) 0) (sym (c .before .is-digit .ensures) ∙ not-false _ (c .if2 .left)))
 
 mul-sum-2 : tie.Need-mul-sum-2 Inv-loop μ-loop
-mul-sum-2 c = omega (arith, product (c .before .before .before .before .loop .i % 2 * 2 + 1) 3 (getD (c .before .before .before .before .before .before .before .args .s .now) (c .before .before .before .before .loop .i) 0) (omega arith) (sym (c .before .is-digit .ensures) ∙ not-false _ (c .if2 .left)))
+mul-sum-2 c =
+    let c1 = c .before .before .before .before in
+    let c2 = c1 .before .before .before in
+    omega (
+      arith,
+      product (c1 .loop .i % 2 * 2 + 1) 3 (getD (c2 .args .s .now) (c1 .loop .i) 0) (omega arith)
+          (sym (c .before .is-digit .ensures) ∙ not-false _ (c .if2 .left)),
+    )
 
 add-sum-2 : tie.Need-add-sum-2 Inv-loop μ-loop
-add-sum-2 c = omega (arith, product (c .before .before .before .before .loop .i % 2 * 2 + 1) 3 (getD (c .before .before .before .before .before .before .before .args .s .now) (c .before .before .before .before .loop .i) 0) (omega arith) (sym (c .before .is-digit .ensures) ∙ not-false _ (c .if2 .left)))
+add-sum-2 c =
+    let c1 = c .before .before .before .before in
+    let c2 = c1 .before .before .before in
+    omega (
+      arith,
+      product (c1 .loop .i % 2 * 2 + 1) 3 (getD (c2 .args .s .now) (c1 .loop .i) 0) (omega arith)
+          (sym (c .before .is-digit .ensures) ∙ not-false _ (c .if2 .left)),
+    )
 
 add-i : tie.Need-add-i Inv-loop μ-loop
 add-i c = search needs
@@ -80,7 +103,17 @@ loop-less : tie.Need-loop-less Inv-loop μ-loop
 loop-less c = search needs
 
 loop-again : tie.Need-loop-again Inv-loop μ-loop
-loop-again c = let p = product (c .before .before .before .before .loop .i % 2 * 2 + 1) 3 (getD (c .before .before .before .before .before .before .before .args .s .now) (c .before .before .before .before .loop .i) 0) (omega arith) (sym (c .before .is-digit .ensures) ∙ not-false _ (c .if2 .left)) in record { walked = on (c .before .before .before .before .loop .inv .walked) (omega arith) (sym (c .before .is-digit .ensures) ∙ not-false _ (c .if2 .left)) (c .before .before .before .before .loop .i % 2 * 2 + 1) (turn (c .before .before .before .before .loop .i % 2) (omega arith)) (c .before .before .before .before .loop .sum) refl; long = c .before .before .before .before .loop .inv .long; small = omega arith }
+loop-again c =
+    let c1 = c .before .before .before .before in
+    let c2 = c1 .before .before .before in
+    let p = product (c1 .loop .i % 2 * 2 + 1) 3 (getD (c2 .args .s .now) (c1 .loop .i) 0) (omega arith)
+    (sym (c .before .is-digit .ensures) ∙ not-false _ (c .if2 .left)) in
+    record {
+      walked = on (c1 .loop .inv .walked) (omega arith) (sym (c .before .is-digit .ensures) ∙ not-false _ (c .if2 .left)) (c1 .loop .i % 2 * 2 + 1)
+          (turn (c1 .loop .i % 2) (omega arith)) (c1 .loop .sum) refl;
+      long = c1 .loop .inv .long;
+      small = omega arith;
+    }
 
 returns-3 : tie.Need-returns-3 Inv-loop μ-loop
 returns-3 c = is-ean (c .before .before .before .before .args .s .now) _ (c .before .before .if1 .left) (ends (c .before .loop .inv .walked) (omega arith))

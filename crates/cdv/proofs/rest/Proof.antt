@@ -1,8 +1,8 @@
 -- `cdv::rest` meets its contract: one digit at a time, the sum stays small.
 -- Assumes nothing.
 use mathlib.Core.List.{List}
-use mathlib.Core.Path.{_≡_, refl, sym, ap, _∙_}
-use Prim.Native.Nat.{ℕ, _+_, _-_, _*_, _≤_, _<_}
+use mathlib.Core.Path.{_≡_, refl, sym, _∙_}
+use Prim.Native.Nat.{ℕ, _+_, _-_, _*_, _≤_}
 use native.Mathlib.Omega.{arith}
 use lib.ListN.{length, getD, drop}
 use borrow.Author.Tests.{not-true, not-false}
@@ -37,22 +37,49 @@ is-digit-requires : tie.Need-is-digit-requires Inv-loop μ-loop
 is-digit-requires c κs = search needs
 
 returns : tie.Need-returns Inv-loop μ-loop
-returns c = no (c .before .before .before .before .loop .inv .walked) (c .before .before .before .loop-test .taken) (sym (c .before .is-digit .ensures) ∙ not-true _ (c .if1 .taken))
+returns c =
+    let c1 = c .before .before .before in
+    let c2 = c1 .before in
+    no (c2 .loop .inv .walked) (c1 .loop-test .taken) (sym (c .before .is-digit .ensures) ∙ not-true _ (c .if1 .taken))
 
 weight-requires : tie.Need-weight-requires Inv-loop μ-loop
 weight-requires c κs = search needs
 
 sub-total : tie.Need-sub-total Inv-loop μ-loop
-sub-total c = omega (arith, is-digit (getD (c .before .before .before .before .before .before .before .args .s .now) (c .before .before .before .before .before .loop .i) 0) (sym (c .before .before .is-digit .ensures) ∙ not-false _ (c .before .if1 .left)))
+sub-total c =
+    let c1 = c .before .before in
+    let c2 = c1 .before .before .before in
+    let c3 = c2 .before .before in
+    omega (arith, is-digit (getD (c3 .args .s .now) (c2 .loop .i) 0) (sym (c1 .is-digit .ensures) ∙ not-false _ (c .before .if1 .left)))
 
 cast-total : tie.Need-cast-total Inv-loop μ-loop
-cast-total c = omega (arith, is-digit (getD (c .before .before .before .before .before .before .before .args .s .now) (c .before .before .before .before .before .loop .i) 0) (sym (c .before .before .is-digit .ensures) ∙ not-false _ (c .before .if1 .left)))
+cast-total c =
+    let c1 = c .before .before in
+    let c2 = c1 .before .before .before in
+    let c3 = c2 .before .before in
+    omega (arith, is-digit (getD (c3 .args .s .now) (c2 .loop .i) 0) (sym (c1 .is-digit .ensures) ∙ not-false _ (c .before .if1 .left)))
 
 mul-total : tie.Need-mul-total Inv-loop μ-loop
-mul-total c = omega (arith, product (c .weight .result) 9 (getD (c .before .before .before .before .before .before .before .args .s .now) (c .before .before .before .before .before .loop .i) 0) (weight-le (c .before .before .before .before .before .loop .i) (c .weight .ensures)) (sym (c .before .before .is-digit .ensures) ∙ not-false _ (c .before .if1 .left)))
+mul-total c =
+    let c1 = c .before .before in
+    let c2 = c1 .before .before .before in
+    let c3 = c2 .before .before in
+    omega (
+      arith,
+      product (c .weight .result) 9 (getD (c3 .args .s .now) (c2 .loop .i) 0) (weight-le (c2 .loop .i) (c .weight .ensures))
+          (sym (c1 .is-digit .ensures) ∙ not-false _ (c .before .if1 .left)),
+    )
 
 add-total : tie.Need-add-total Inv-loop μ-loop
-add-total c = omega (arith, product (c .weight .result) 9 (getD (c .before .before .before .before .before .before .before .args .s .now) (c .before .before .before .before .before .loop .i) 0) (weight-le (c .before .before .before .before .before .loop .i) (c .weight .ensures)) (sym (c .before .before .is-digit .ensures) ∙ not-false _ (c .before .if1 .left)))
+add-total c =
+    let c1 = c .before .before in
+    let c2 = c1 .before .before .before in
+    let c3 = c2 .before .before in
+    omega (
+      arith,
+      product (c .weight .result) 9 (getD (c3 .args .s .now) (c2 .loop .i) 0) (weight-le (c2 .loop .i) (c .weight .ensures))
+          (sym (c1 .is-digit .ensures) ∙ not-false _ (c .before .if1 .left)),
+    )
 
 add-i : tie.Need-add-i Inv-loop μ-loop
 add-i c = search needs
@@ -61,7 +88,19 @@ loop-less : tie.Need-loop-less Inv-loop μ-loop
 loop-less c = search needs
 
 loop-again : tie.Need-loop-again Inv-loop μ-loop
-loop-again c = let p = product (c .weight .result) 9 (getD (c .before .before .before .before .before .before .before .args .s .now) (c .before .before .before .before .before .loop .i) 0) (weight-le (c .before .before .before .before .before .loop .i) (c .weight .ensures)) (sym (c .before .before .is-digit .ensures) ∙ not-false _ (c .before .if1 .left)) in record { walked = on (c .before .before .before .before .before .loop .inv .walked) (c .before .before .before .before .loop-test .taken) (sym (c .before .before .is-digit .ensures) ∙ not-false _ (c .before .if1 .left)) (c .weight .result) (c .weight .ensures) (c .before .before .before .before .before .loop .total) refl; late = omega arith; small = omega arith }
+loop-again c =
+    let c1 = c .before .before in
+    let c2 = c1 .before .before in
+    let c3 = c2 .before in
+    let c4 = c3 .before .before in
+    let p = product (c .weight .result) 9 (getD (c4 .args .s .now) (c3 .loop .i) 0) (weight-le (c3 .loop .i) (c .weight .ensures))
+    (sym (c1 .is-digit .ensures) ∙ not-false _ (c .before .if1 .left)) in
+    record {
+      walked = on (c3 .loop .inv .walked) (c2 .loop-test .taken) (sym (c1 .is-digit .ensures) ∙ not-false _ (c .before .if1 .left)) (c .weight .result)
+          (c .weight .ensures) (c3 .loop .total) refl;
+      late = omega arith;
+      small = omega arith;
+    }
 
 returns-2 : tie.Need-returns-2 Inv-loop μ-loop
 returns-2 c = ends (c .before .loop .inv .walked) (c .loop-test .left)

@@ -1,13 +1,13 @@
 -- `cdv::satisfies` meets its contract: four digits at a time, then the rest; the sum keeps its last digit and stays small.
 -- Assumes nothing.
-use mathlib.Core.Path.{_≡_, refl, sym, ap, _∙_}
+use mathlib.Core.Path.{_≡_, refl, sym, _∙_}
 use mathlib.Core.List.{List}
-use Prim.Native.Nat.{ℕ, _+_, _-_, _%_, _≤_, _<_}
+use Prim.Native.Nat.{ℕ, _-_, _%_, _≤_}
 use native.Mathlib.Omega.{arith}
-use lib.ListN.{length, getD, drop}
+use lib.ListN.{length}
 use borrow.Author.Tests.{not-true, not-false}
-use Rattle.cdv.specs.Check.{cdv, left, balanced, satisfies}
-use Rattle.cdv.proofs.Weighing.{Walked, start, no-four, on-four, fourDigits}
+use Rattle.cdv.specs.Check.{cdv, balanced, satisfies}
+use Rattle.cdv.proofs.Weighing.{Walked, start, no-four, on-four}
 use borrow.Author.Needs.{needs}
 use Rattle.cdv.proofs.satisfies.Statement.{statement}
 use Rattle.cdv.proofs.satisfies.Tie as tie
@@ -56,7 +56,9 @@ are-digits-requires c κs = search needs
 
 returns : tie.Need-returns Inv-loop μ-loop
 unfolding satisfies
-returns c = no-four (c .before .before .before .before .before .before .before .loop .inv .walked) (omega arith) (sym (c .before .are-digits .ensures) ∙ not-true _ (c .if1 .taken))
+returns c =
+    let c1 = c .before .before .before .before .before .before .before in
+    no-four (c1 .loop .inv .walked) (omega arith) (sym (c .before .are-digits .ensures) ∙ not-true _ (c .if1 .taken))
 
 lowered-requires : tie.Need-lowered-requires Inv-loop μ-loop
 lowered-requires c κs = search needs
@@ -74,7 +76,16 @@ loop-less : tie.Need-loop-less Inv-loop μ-loop
 loop-less c = search needs
 
 loop-again : tie.Need-loop-again Inv-loop μ-loop
-loop-again c = record { walked = on-four (c .before .before .before .before .before .before .before .before .before .loop .inv .walked) (omega arith) (c .before .before .before .before .before .before .before .before .before .loop .inv .four) (sym (c .before .before .before .are-digits .ensures) ∙ not-false _ (c .before .before .if1 .left)) (c .before .lowered .result) (c .before .lowered .ensures .0) (c .weigh .result) (c .weigh .ensures .0); low = omega arith; four = omega arith; small = omega arith }
+loop-again c =
+    let c1 = c .before .before .before in
+    let c2 = c1 .before .before .before .before .before .before in
+    record {
+      walked = on-four (c2 .loop .inv .walked) (omega arith) (c2 .loop .inv .four) (sym (c1 .are-digits .ensures) ∙ not-false _ (c .before .before .if1 .left))
+          (c .before .lowered .result) (c .before .lowered .ensures .0) (c .weigh .result) (c .weigh .ensures .0);
+      low = omega arith;
+      four = omega arith;
+      small = omega arith;
+    }
 
 rest-requires : tie.Need-rest-requires Inv-loop μ-loop
 rest-requires c κs = search needs

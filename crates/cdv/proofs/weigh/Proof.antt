@@ -51,10 +51,17 @@ add-result-3 : tie.Need-add-result-3
 add-result-3 c = search needs
 
 sub-result : tie.Need-sub-result
-sub-result c = let a = c .before .before .before .before .args in omega (arith, within (a .a) (a .b) (a .c) (a .d) (c .before .before .before .before .pre))
+sub-result c =
+    let start = c .before .before .before .before in
+    let a = start .args in
+    omega (arith, within (a .a) (a .b) (a .c) (a .d) (start .pre))
 
 returns : tie.Need-returns
-returns c = let a = c .before .before .before .before .args in let h = within (a .a) (a .b) (a .c) (a .d) (c .before .before .before .before .pre) in (omega arith, omega arith)
+returns c =
+    let start = c .before .before .before .before in
+    let a = start .args in
+    let h = within (a .a) (a .b) (a .c) (a .d) (start .pre) in
+    (omega arith, omega arith)
 
 pub weigh-spec : {M : Type 1} → statement M
 weigh-spec =

@@ -52,25 +52,51 @@ is-digits-requires : tie.Need-is-digits-requires
 is-digits-requires c κs = search needs
 
 returns-2 : tie.Need-returns-2
-returns-2 c = wrong (c .before .before .before .before .before .before .before .args .banks .now) (c .before .before .before .before .before .before .before .args .s .now) (c .before .before .before .before .if1 .left) (sym (c .before .before .before .satisfies .ensures) ∙ not-true _ (c .before .before .if2 .taken)) (sym (c .before .is-digits .ensures) ∙ c .if3 .taken)
+returns-2 c =
+    let c1 = c .before .before in
+    let c2 = c1 .before in
+    let c3 = c2 .before in
+    let c4 = c3 .before .before .before in
+    wrong (c4 .args .banks .now) (c4 .args .s .now) (c3 .if1 .left) (sym (c2 .satisfies .ensures) ∙ not-true _ (c1 .if2 .taken))
+    (sym (c .before .is-digits .ensures) ∙ c .if3 .taken)
 
 returns-3 : tie.Need-returns-3
-returns-3 c = no-digits (c .before .before .before .before .before .before .before .args .banks .now) (c .before .before .before .before .before .before .before .args .s .now) (c .before .before .before .before .if1 .left) (sym (c .before .is-digits .ensures) ∙ c .if3 .left)
+returns-3 c =
+    let c1 = c .before .before .before .before in
+    let c2 = c1 .before .before .before in
+    no-digits (c2 .args .banks .now) (c2 .args .s .now) (c1 .if1 .left) (sym (c .before .is-digits .ensures) ∙ c .if3 .left)
 
 number-requires : tie.Need-number-requires
 number-requires c κs = search needs
 
 cast-is-listed : tie.Need-cast-is-listed
-cast-is-listed c = omega (arith, small (c .before .before .before .before .before .before .args .s .now) (c .before .before .before .if1 .left), c .number .ensures)
+cast-is-listed c =
+    let c1 = c .before .before .before in
+    let c2 = c1 .before .before .before in
+    omega (arith, small (c2 .args .s .now) (c1 .if1 .left), c .number .ensures)
 
 is-listed-requires : tie.Need-is-listed-requires
 is-listed-requires c κs = search needs
 
 returns-4 : tie.Need-returns-4
-returns-4 c = right (c .before .before .before .before .before .before .before .before .args .banks .now) (c .before .before .before .before .before .before .before .before .args .s .now) (c .before .before .before .before .before .if1 .left) (sym (c .before .before .before .before .satisfies .ensures) ∙ not-false _ (c .before .before .before .if2 .left)) true (sym (ap (foundIn (c .before .before .before .before .before .before .before .before .args .banks .now)) (c .before .before .number .ensures)) ∙ sym (c .before .is-listed .ensures .0) ∙ c .if4 .taken)
+returns-4 c =
+    let c1 = c .before .before in
+    let c2 = c1 .before in
+    let c3 = c2 .before in
+    let c4 = c3 .before in
+    let c5 = c4 .before .before .before in
+    right (c5 .args .banks .now) (c5 .args .s .now) (c4 .if1 .left) (sym (c3 .satisfies .ensures) ∙ not-false _ (c2 .if2 .left)) true
+    (sym (ap (foundIn (c5 .args .banks .now)) (c1 .number .ensures)) ∙ sym (c .before .is-listed .ensures .0) ∙ c .if4 .taken)
 
 returns-5 : tie.Need-returns-5
-returns-5 c = right (c .before .before .before .before .before .before .before .before .args .banks .now) (c .before .before .before .before .before .before .before .before .args .s .now) (c .before .before .before .before .before .if1 .left) (sym (c .before .before .before .before .satisfies .ensures) ∙ not-false _ (c .before .before .before .if2 .left)) false (sym (ap (foundIn (c .before .before .before .before .before .before .before .before .args .banks .now)) (c .before .before .number .ensures)) ∙ sym (c .before .is-listed .ensures .0) ∙ c .if4 .left)
+returns-5 c =
+    let c1 = c .before .before in
+    let c2 = c1 .before in
+    let c3 = c2 .before in
+    let c4 = c3 .before in
+    let c5 = c4 .before .before .before in
+    right (c5 .args .banks .now) (c5 .args .s .now) (c4 .if1 .left) (sym (c3 .satisfies .ensures) ∙ not-false _ (c2 .if2 .left)) false
+    (sym (ap (foundIn (c5 .args .banks .now)) (c1 .number .ensures)) ∙ sym (c .before .is-listed .ensures .0) ∙ c .if4 .left)
 
 pub bank-found-spec : {M : Type 1} → statement M
 bank-found-spec =

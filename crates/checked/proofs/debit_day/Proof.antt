@@ -38,7 +38,8 @@ returns-2 c =
     let c2 = c1 .before in
     let c3 = c2 .before in
     let c4 = c3 .before in
-    late (c4 .args .e) (c4 .args .c) (c4 .args .n) (sym (c3 .is-before .ensures) ∙ c2 .if1 .left) (c .found .result) (c1 .is-within .result) (c1 .is-within .ensures) (c .found .ensures)
+    late (c4 .args .e) (c4 .args .c) (c4 .args .n) (sym (c3 .is-before .ensures) ∙ c2 .if1 .left) (c .found .result) (c1 .is-within .result)
+    (c1 .is-within .ensures) (c .found .ensures)
 
 pub debit-day-spec : {M : Type 1} → statement M
 debit-day-spec =

@@ -27,7 +27,8 @@ returns c =
     let c1 = c .before .before in
     let c2 = c1 .before .before in
     let c3 = c2 .before .before in
-    dated (debitDay (c3 .args .e) (c3 .args .c)) (c3 .args .s .now) (c2 .read-date .result) (c2 .read-date .ensures) (c1 .d .given .0 .0) (c1 .d .given .1) (c .debit-day .result) (c .debit-day .ensures)
+    dated (debitDay (c3 .args .e) (c3 .args .c)) (c3 .args .s .now) (c2 .read-date .result) (c2 .read-date .ensures) (c1 .d .given .0 .0) (c1 .d .given .1)
+    (c .debit-day .result) (c .debit-day .ensures)
 
 returns-2 : tie.Need-returns-2
 unfolding debitFound

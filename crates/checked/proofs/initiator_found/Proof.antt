@@ -67,7 +67,8 @@ returns c =
     let c2 = c1 .before .before in
     let c3 = c2 .before in
     let c4 = c3 .before .before in
-    tax (c4 .args .s .now) (sym (c3 .is-tax-form .ensures) ∙ c2 .if1 .taken) (c .found .result) (c1 .satisfies .result) (c1 .satisfies .ensures) (c .found .ensures)
+    tax (c4 .args .s .now) (sym (c3 .is-tax-form .ensures) ∙ c2 .if1 .taken) (c .found .result) (c1 .satisfies .result) (c1 .satisfies .ensures)
+    (c .found .ensures)
 
 returns-2 : tie.Need-returns-2
 returns-2 c = other (c .before .before .before .before .args .s .now) (sym (c .before .before .is-tax-form .ensures) ∙ c .before .if1 .left) (c .if2 .taken)
@@ -99,7 +100,8 @@ returns-4 c =
     let c5 = c4 .before in
     let c6 = c5 .before in
     let c7 = c6 .before .before in
-    ean (c7 .args .s .now) (sym (c6 .is-tax-form .ensures) ∙ c5 .if1 .left) (c4 .if2 .left) (sym (c3 .is-digits .ensures) ∙ not-false _ (c2 .if3 .left)) (c .found2 .result) (c1 .is-ean13 .result) (c1 .is-ean13 .ensures) (c .found2 .ensures)
+    ean (c7 .args .s .now) (sym (c6 .is-tax-form .ensures) ∙ c5 .if1 .left) (c4 .if2 .left) (sym (c3 .is-digits .ensures) ∙ not-false _ (c2 .if3 .left))
+    (c .found2 .result) (c1 .is-ean13 .result) (c1 .is-ean13 .ensures) (c .found2 .ensures)
 
 pub initiator-found-spec : {M : Type 1} → statement M
 initiator-found-spec =

@@ -79,7 +79,8 @@ returns-4 c =
     let c3 = c2 .before .before in
     let c4 = c3 .before .before in
     let c5 = c4 .before .before in
-    marked (c5 .args .s .now) (c4 .if1 .left) (c3 .if2 .left) (c2 .if3 .left) (c1 .is-digits .result) (c .is-digits2 .result) (c1 .is-digits .ensures) (c .is-digits2 .ensures)
+    marked (c5 .args .s .now) (c4 .if1 .left) (c3 .if2 .left) (c2 .if3 .left) (c1 .is-digits .result) (c .is-digits2 .result) (c1 .is-digits .ensures)
+    (c .is-digits2 .ensures)
 
 pub is-tax-form-spec : {M : Type 1} → statement M
 is-tax-form-spec =

@@ -1,6 +1,6 @@
 -- `digits::number` meets its contract: what is read so far, with the digits that are left, is the number.
 -- Assumes nothing.
-use mathlib.Core.Path.{_≡_, sym, _∙_}
+use mathlib.Core.Path.{sym, _∙_}
 use Prim.Native.Nat.{_-_}
 use native.Mathlib.Omega.{arith}
 use lib.ListN.{length, getD}
@@ -30,19 +30,31 @@ is-digit-requires : tie.Need-is-digit-requires Inv-loop μ-loop
 is-digit-requires c κs = search needs
 
 returns-2 : tie.Need-returns-2 Inv-loop μ-loop
-returns-2 c = no (c .before .before .before .before .loop .inv) (c .before .before .before .loop-test .taken) (sym (c .before .is-digit .ensures) ∙ not-true _ (c .if2 .taken))
+returns-2 c =
+    let test = c .before .before .before in
+    no (test .before .loop .inv) (test .loop-test .taken) (sym (c .before .is-digit .ensures) ∙ not-true _ (c .if2 .taken))
 
 mul-n : tie.Need-mul-n Inv-loop μ-loop
 mul-n c = omega (arith, room (c .before .before .before .before .loop .inv) (c .before .before .before .loop-test .taken))
 
 sub-n : tie.Need-sub-n Inv-loop μ-loop
-sub-n c = omega (arith, is-digit (getD (c .before .before .before .before .before .before .before .args .s .now) (c .before .before .before .before .loop .i) 0) (sym (c .before .is-digit .ensures) ∙ not-false _ (c .if2 .left)))
+sub-n c =
+    let loop = c .before .before .before .before in
+    let b = getD (loop .before .before .before .args .s .now) (loop .loop .i) 0 in
+    omega (arith, is-digit b (sym (c .before .is-digit .ensures) ∙ not-false _ (c .if2 .left)))
 
 cast-n : tie.Need-cast-n Inv-loop μ-loop
-cast-n c = omega (arith, is-digit (getD (c .before .before .before .before .before .before .before .args .s .now) (c .before .before .before .before .loop .i) 0) (sym (c .before .is-digit .ensures) ∙ not-false _ (c .if2 .left)))
+cast-n c =
+    let loop = c .before .before .before .before in
+    let b = getD (loop .before .before .before .args .s .now) (loop .loop .i) 0 in
+    omega (arith, is-digit b (sym (c .before .is-digit .ensures) ∙ not-false _ (c .if2 .left)))
 
 add-n : tie.Need-add-n Inv-loop μ-loop
-add-n c = omega (arith, room (c .before .before .before .before .loop .inv) (c .before .before .before .loop-test .taken), is-digit (getD (c .before .before .before .before .before .before .before .args .s .now) (c .before .before .before .before .loop .i) 0) (sym (c .before .is-digit .ensures) ∙ not-false _ (c .if2 .left)))
+add-n c =
+    let loop = c .before .before .before .before in
+    let b = getD (loop .before .before .before .args .s .now) (loop .loop .i) 0 in
+    let d = is-digit b (sym (c .before .is-digit .ensures) ∙ not-false _ (c .if2 .left)) in
+    omega (arith, room (loop .loop .inv) (c .before .before .before .loop-test .taken), d)
 
 add-i : tie.Need-add-i Inv-loop μ-loop
 add-i c = search needs
@@ -51,7 +63,9 @@ loop-less : tie.Need-loop-less Inv-loop μ-loop
 loop-less c = search needs
 
 loop-again : tie.Need-loop-again Inv-loop μ-loop
-loop-again c = on (c .before .before .before .before .loop .inv) (c .before .before .before .loop-test .taken) (sym (c .before .is-digit .ensures) ∙ not-false _ (c .if2 .left))
+loop-again c =
+    let test = c .before .before .before in
+    on (test .before .loop .inv) (test .loop-test .taken) (sym (c .before .is-digit .ensures) ∙ not-false _ (c .if2 .left))
 
 returns-3 : tie.Need-returns-3 Inv-loop μ-loop
 returns-3 c = ends (c .before .loop .inv) (c .loop-test .left)

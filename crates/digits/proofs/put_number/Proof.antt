@@ -1,10 +1,10 @@
 -- `digits::put_number` meets its contract: the tests say whether there is room.
 -- Assumes nothing.
-use mathlib.Core.Path.{_≡_, refl, sym, ap, _∙_}
+use mathlib.Core.Path.{_≡_, sym, _∙_}
 use mathlib.Core.Bool.{Bool, true, false}
 use mathlib.Core.List.{List}
 use Prim.Native.Nat.{ℕ, _^_, _≤_, _<_}
-use lib.Dec.{leb, ltb}
+use lib.Dec.{ltb}
 use lib.ListN.{length}
 use borrow.Author.Tests.{le-leb, lt-leb, not-true, not-false}
 use Rattle.base.specs.Bytes.{over}
@@ -31,13 +31,18 @@ module _ (xs : List ℕ) (w n : ℕ) where
     put f ys g = let e = le-leb w (length xs) h in (simp (e, f), simp (e, f) g)
 
 returns : tie.Need-returns
-returns c = short (c .before .before .args .out .now) (c .before .before .args .w) (c .before .before .args .n) (c .if1 .taken)
+returns c =
+    let a = c .before .before .args in
+    short (a .out .now) (a .w) (a .n) (c .if1 .taken)
 
 fits-requires : tie.Need-fits-requires
 fits-requires c κs = search needs
 
 returns-2 : tie.Need-returns-2
-returns-2 c = large (c .before .before .before .before .args .out .now) (c .before .before .before .before .args .w) (c .before .before .before .before .args .n) (c .before .before .if1 .left) (sym (c .before .fits2 .ensures) ∙ not-true _ (c .if2 .taken))
+returns-2 c =
+    let test = c .before .before in
+    let a = test .before .before .args in
+    large (a .out .now) (a .w) (a .n) (test .if1 .left) (sym (c .before .fits2 .ensures) ∙ not-true _ (c .if2 .taken))
 
 put-figures-requires : tie.Need-put-figures-requires
 put-figures-requires c κs = c .before .before .before .if1 .left
@@ -46,7 +51,13 @@ same-length : tie.Need-same-length
 same-length c = search needs
 
 returns-3 : tie.Need-returns-3
-returns-3 c = put (c .before .before .before .before .before .before .before .before .args .out .now) (c .before .before .before .before .before .before .before .before .args .w) (c .before .before .before .before .before .before .before .before .args .n) (c .before .before .before .before .before .before .if1 .left) (sym (c .before .before .before .before .before .fits2 .ensures) ∙ not-false _ (c .before .before .before .before .if2 .left)) _ (c .before .before .put-figures .ensures)
+returns-3 c =
+    let written = c .before .before in
+    let small = written .before .before in
+    let test = small .before .before in
+    let a = test .before .before .args in
+    let few = sym (small .before .fits2 .ensures) ∙ not-false _ (small .if2 .left) in
+    put (a .out .now) (a .w) (a .n) (test .if1 .left) few _ (written .put-figures .ensures)
 
 pub put-number-spec : {M : Type 1} → statement M
 put-number-spec =

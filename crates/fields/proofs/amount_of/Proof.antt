@@ -30,10 +30,16 @@ returns : tie.Need-returns
 returns c = no-digits (c .before .before .before .args .s .now) (sym (c .before .is-number .ensures) ∙ not-true _ (c .if1 .taken))
 
 returns-2 : tie.Need-returns-2
-returns-2 c = counted (c .before .before .before .before .args .s .now) (sym (c .before .before .is-number .ensures) ∙ not-false _ (c .before .if1 .left)) true (eq-eqb _ _ (sym (c .before .before .before .before .pre) ∙ c .if2 .taken))
+returns-2 c =
+    let c1 = c .before .before in
+    let c2 = c1 .before .before in
+    counted (c2 .args .s .now) (sym (c1 .is-number .ensures) ∙ not-false _ (c .before .if1 .left)) true (eq-eqb _ _ (sym (c2 .pre) ∙ c .if2 .taken))
 
 returns-3 : tie.Need-returns-3
-returns-3 c = counted (c .before .before .before .before .args .s .now) (sym (c .before .before .is-number .ensures) ∙ not-false _ (c .before .if1 .left)) false (ne-eqb _ _ (λ e. c .if2 .left (c .before .before .before .before .pre ∙ e)))
+returns-3 c =
+    let c1 = c .before .before in
+    let c2 = c1 .before .before in
+    counted (c2 .args .s .now) (sym (c1 .is-number .ensures) ∙ not-false _ (c .before .if1 .left)) false (ne-eqb _ _ (λ e. c .if2 .left (c2 .pre ∙ e)))
 
 pub amount-of-spec : {M : Type 1} → statement M
 amount-of-spec = tie.close (tie.spec is-number-requires returns returns-2 returns-3)

@@ -31,13 +31,25 @@ is-number-requires : tie.Need-is-number-requires
 is-number-requires c κs = c .number .ensures
 
 returns : tie.Need-returns
-returns c = no-digits (c .before .before .before .before .args .k) (c .before .before .before .before .args .s .now) (sym (c .before .is-number .ensures) ∙ not-true _ (c .if1 .taken))
+returns c =
+    let c1 = c .before .before .before .before in
+    no-digits (c1 .args .k) (c1 .args .s .now) (sym (c .before .is-number .ensures) ∙ not-true _ (c .if1 .taken))
 
 returns-2 : tie.Need-returns-2
-returns-2 c = placed (c .before .before .before .before .before .args .k) (c .before .before .before .before .before .args .s .now) (sym (c .before .before .is-number .ensures) ∙ not-false _ (c .before .if1 .left)) true (eq-eqb _ _ (sym (c .before .before .before .number .ensures) ∙ c .if2 .taken))
+returns-2 c =
+    let c1 = c .before .before in
+    let c2 = c1 .before in
+    let c3 = c2 .before .before in
+    placed (c3 .args .k) (c3 .args .s .now) (sym (c1 .is-number .ensures) ∙ not-false _ (c .before .if1 .left)) true
+    (eq-eqb _ _ (sym (c2 .number .ensures) ∙ c .if2 .taken))
 
 returns-3 : tie.Need-returns-3
-returns-3 c = placed (c .before .before .before .before .before .args .k) (c .before .before .before .before .before .args .s .now) (sym (c .before .before .is-number .ensures) ∙ not-false _ (c .before .if1 .left)) false (ne-eqb _ _ (λ e. c .if2 .left (c .before .before .before .number .ensures ∙ e)))
+returns-3 c =
+    let c1 = c .before .before in
+    let c2 = c1 .before in
+    let c3 = c2 .before .before in
+    placed (c3 .args .k) (c3 .args .s .now) (sym (c1 .is-number .ensures) ∙ not-false _ (c .before .if1 .left)) false
+    (ne-eqb _ _ (λ e. c .if2 .left (c2 .number .ensures ∙ e)))
 
 pub place-found-spec : {M : Type 1} → statement M
 place-found-spec =

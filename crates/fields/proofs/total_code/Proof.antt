@@ -24,13 +24,28 @@ is-number-requires : tie.Need-is-number-requires
 is-number-requires c κs = c .number .ensures
 
 returns : tie.Need-returns
-returns c = simp (first-fails (digitsOf (c .before .before .before .before .args .n) (c .before .before .before .before .args .s .now)) (eqb (numberOf (c .before .before .before .before .args .s .now)) (c .before .before .before .before .args .want)) (sym (c .before .is-number .ensures) ∙ not-true _ (c .if1 .taken)))
+returns c =
+    let c1 = c .before .before .before .before in
+    simp (first-fails (digitsOf (c1 .args .n) (c1 .args .s .now)) (eqb (numberOf (c1 .args .s .now)) (c1 .args .want))
+    (sym (c .before .is-number .ensures) ∙ not-true _ (c .if1 .taken)))
 
 returns-2 : tie.Need-returns-2
-returns-2 c = simp (second-decides (digitsOf (c .before .before .before .before .before .args .n) (c .before .before .before .before .before .args .s .now)) (eqb (numberOf (c .before .before .before .before .before .args .s .now)) (c .before .before .before .before .before .args .want)) (sym (c .before .before .is-number .ensures) ∙ not-false _ (c .before .if1 .left)) (eq-eqb (numberOf (c .before .before .before .before .before .args .s .now)) (c .before .before .before .before .before .args .want) (sym (c .before .before .before .number .ensures) ∙ c .if2 .taken)))
+returns-2 c =
+    let c1 = c .before .before in
+    let c2 = c1 .before in
+    let c3 = c2 .before .before in
+    simp (second-decides (digitsOf (c3 .args .n) (c3 .args .s .now)) (eqb (numberOf (c3 .args .s .now)) (c3 .args .want))
+    (sym (c1 .is-number .ensures) ∙ not-false _ (c .before .if1 .left))
+    (eq-eqb (numberOf (c3 .args .s .now)) (c3 .args .want) (sym (c2 .number .ensures) ∙ c .if2 .taken)))
 
 returns-3 : tie.Need-returns-3
-returns-3 c = simp (second-decides (digitsOf (c .before .before .before .before .before .args .n) (c .before .before .before .before .before .args .s .now)) (eqb (numberOf (c .before .before .before .before .before .args .s .now)) (c .before .before .before .before .before .args .want)) (sym (c .before .before .is-number .ensures) ∙ not-false _ (c .before .if1 .left)) (ne-eqb (numberOf (c .before .before .before .before .before .args .s .now)) (c .before .before .before .before .before .args .want) (λ e. c .if2 .left (c .before .before .before .number .ensures ∙ e))))
+returns-3 c =
+    let c1 = c .before .before in
+    let c2 = c1 .before in
+    let c3 = c2 .before .before in
+    simp (second-decides (digitsOf (c3 .args .n) (c3 .args .s .now)) (eqb (numberOf (c3 .args .s .now)) (c3 .args .want))
+    (sym (c1 .is-number .ensures) ∙ not-false _ (c .before .if1 .left))
+    (ne-eqb (numberOf (c3 .args .s .now)) (c3 .args .want) (λ e. c .if2 .left (c2 .number .ensures ∙ e))))
 
 pub total-code-spec : {M : Type 1} → statement M
 total-code-spec =

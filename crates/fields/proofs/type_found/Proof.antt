@@ -33,16 +33,27 @@ shared-slice-read-if2 : tie.Need-shared-slice-read-if2
 shared-slice-read-if2 c = search needs
 
 returns-2 : tie.Need-returns-2
-returns-2 c = simp (two (c .before .before .before .args .last) (c .before .before .before .args .s .now) (c .before .before .if1 .left), ne-eqb _ _ (c .if2 .taken))
+returns-2 c =
+    let first = c .before .before in
+    let a = first .before .args in
+    simp (two (a .last) (a .s .now) (first .if1 .left), ne-eqb _ _ (c .if2 .taken))
 
 shared-slice-read-if3 : tie.Need-shared-slice-read-if3
 shared-slice-read-if3 c = search needs
 
 returns-3 : tie.Need-returns-3
-returns-3 c = simp (two (c .before .before .before .before .before .args .last) (c .before .before .before .before .before .args .s .now) (c .before .before .before .before .if1 .left), eq-eqb _ _ (c .before .before .if2 .left), eq-eqb _ _ (c .if3 .taken))
+returns-3 c =
+    let second = c .before .before in
+    let first = second .before .before in
+    let a = first .before .args in
+    simp (two (a .last) (a .s .now) (first .if1 .left), eq-eqb _ _ (second .if2 .left), eq-eqb _ _ (c .if3 .taken))
 
 returns-4 : tie.Need-returns-4
-returns-4 c = simp (two (c .before .before .before .before .before .args .last) (c .before .before .before .before .before .args .s .now) (c .before .before .before .before .if1 .left), eq-eqb _ _ (c .before .before .if2 .left), ne-eqb _ _ (c .if3 .left))
+returns-4 c =
+    let second = c .before .before in
+    let first = second .before .before in
+    let a = first .before .args in
+    simp (two (a .last) (a .s .now) (first .if1 .left), eq-eqb _ _ (second .if2 .left), ne-eqb _ _ (c .if3 .left))
 
 pub type-found-spec : {M : Type 1} → statement M
 type-found-spec =

@@ -3,14 +3,14 @@
 use mathlib.Core.Path.{_≡_, sym, ap, _∙_}
 use mathlib.Core.List.{List}
 use Prim.Native.Nat.{ℕ}
-use Rattle.calendar.specs.Reading.{readingOf}
-use Rattle.calendar.specs.declared.Reading.{Reading}
+use Rattle.calendar.specs.DateField.{dateField}
+use Rattle.calendar.specs.declared.DateField.{DateField}
 use Rattle.files.specs.Files.{dateIn, dayOf}
 use borrow.Author.Needs.{needs}
 use Rattle.files.proofs.day.Statement.{statement}
 use Rattle.files.proofs.day.Tie as tie
 
-is-read : (s : List ℕ) (r : Reading) → r ≡ readingOf s → {q : Reading} → r ≡ q → dateIn q ≡ dayOf s
+is-read : (s : List ℕ) (r : DateField) → r ≡ dateField s → {q : DateField} → r ≡ q → dateIn q ≡ dayOf s
 unfolding dayOf
 is-read s r e f = ap dateIn (sym f ∙ e)
 

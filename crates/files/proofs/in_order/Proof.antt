@@ -62,7 +62,8 @@ returns-2 c =
     let c2 = c1 .before in
     let c3 = c2 .before .before in
     let c4 = c3 .before in
-    not-above (c4 .loop .inv) (c3 .loop-test .taken) (c2 .is-line .result) (c2 .is-line .ensures) (not-false _ (c1 .if1 .left)) (c .before .number .result) (c .before .number .ensures) (c .if2 .taken)
+    not-above (c4 .loop .inv) (c3 .loop-test .taken) (c2 .is-line .result) (c2 .is-line .ensures) (not-false _ (c1 .if1 .left)) (c .before .number .result)
+    (c .before .number .ensures) (c .if2 .taken)
 
 add-least : tie.Need-add-least Inv-loop μ-loop
 add-least c =
@@ -70,7 +71,11 @@ add-least c =
     let c2 = c1 .before in
     let c3 = c2 .before .before in
     let c4 = c3 .before in
-    omega (arith, low (c4 .loop .inv) (c3 .loop-test .taken) (c2 .is-line .result) (c2 .is-line .ensures) (not-false _ (c1 .if1 .left)) (c .before .number .result) (c .before .number .ensures))
+    omega (
+      arith,
+      low (c4 .loop .inv) (c3 .loop-test .taken) (c2 .is-line .result) (c2 .is-line .ensures) (not-false _ (c1 .if1 .left)) (c .before .number .result)
+          (c .before .number .ensures),
+    )
 
 add-k : tie.Need-add-k Inv-loop μ-loop
 add-k c = search needs
@@ -84,7 +89,8 @@ loop-again c =
     let c2 = c1 .before in
     let c3 = c2 .before .before in
     let c4 = c3 .before in
-    on (c4 .loop .inv) (c3 .loop-test .taken) (c2 .is-line .result) (c2 .is-line .ensures) (not-false _ (c1 .if1 .left)) (c .before .number .result) (c .before .number .ensures) (c .if2 .left)
+    on (c4 .loop .inv) (c3 .loop-test .taken) (c2 .is-line .result) (c2 .is-line .ensures) (not-false _ (c1 .if1 .left)) (c .before .number .result)
+    (c .before .number .ensures) (c .if2 .left)
 
 returns-3 : tie.Need-returns-3 Inv-loop μ-loop
 returns-3 c = ends (c .before .loop .inv) (c .loop-test .left)

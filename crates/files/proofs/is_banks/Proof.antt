@@ -6,29 +6,29 @@ use mathlib.Core.List.{List}
 use Prim.Native.Nat.{ℕ, _/_, _%_, _<_, _≤_}
 use lib.ListN.{length}
 use borrow.Author.Tests.{le-leb, lt-leb, eq-eqb, ne-eqb}
-use Rattle.files.specs.Files.{most, ordered, isBanks}
+use Rattle.files.specs.Files.{longest, ordered, isBanks}
 use borrow.Author.Needs.{needs}
 use Rattle.files.proofs.is_banks.Statement.{statement}
 use Rattle.files.proofs.is_banks.Tie as tie
 
 module _ (s : List ℕ) (room : ℕ) where
-  long : most < length s → false ≡ isBanks s room
+  long : longest < length s → false ≡ isBanks s room
   unfolding isBanks
-  long h = simp (lt-leb (length s) most h)
+  long h = simp (lt-leb (length s) longest h)
 
-  module _ (h : length s ≤ most) where
+  module _ (h : length s ≤ longest) where
     ragged : (length s % 9 ≡ 0 → ⊥) → false ≡ isBanks s room
     unfolding isBanks
-    ragged k = simp (le-leb (length s) most h, ne-eqb (length s % 9) 0 k)
+    ragged k = simp (le-leb (length s) longest h, ne-eqb (length s % 9) 0 k)
 
     module _ (k : length s % 9 ≡ 0) where
       crowded : room < length s / 9 → false ≡ isBanks s room
       unfolding isBanks
-      crowded l = simp (le-leb (length s) most h, eq-eqb (length s % 9) 0 k, lt-leb (length s / 9) room l)
+      crowded l = simp (le-leb (length s) longest h, eq-eqb (length s % 9) 0 k, lt-leb (length s / 9) room l)
 
       whole : length s / 9 ≤ room → (r : Bool) → r ≡ ordered s → r ≡ isBanks s room
       unfolding isBanks
-      whole l r e = simp (le-leb (length s) most h, eq-eqb (length s % 9) 0 k, le-leb (length s / 9) room l) e
+      whole l r e = simp (le-leb (length s) longest h, eq-eqb (length s % 9) 0 k, le-leb (length s / 9) room l) e
 
 returns : tie.Need-returns
 returns c = long (c .before .before .args .s .now) (c .before .before .args .room) (c .if1 .taken)

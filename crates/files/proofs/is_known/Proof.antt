@@ -7,16 +7,16 @@ use Prim.Native.Nat.{ℕ, _<_, _≤_}
 use lib.ListN.{length}
 use borrow.Author.Tests.{le-leb, lt-leb}
 use Rattle.lists.specs.Known.{isKnownList}
-use Rattle.files.specs.Files.{most, isKnownFile}
+use Rattle.files.specs.Files.{longest, isKnownFile}
 use borrow.Author.Needs.{needs}
 use Rattle.files.proofs.is_known.Statement.{statement}
 use Rattle.files.proofs.is_known.Tie as tie
 
-long : (s : List ℕ) → most < length s → false ≡ isKnownFile s
-long s h = simp (lt-leb (length s) most h)
+long : (s : List ℕ) → longest < length s → false ≡ isKnownFile s
+long s h = simp (lt-leb (length s) longest h)
 
-short : (s : List ℕ) → length s ≤ most → (r : Bool) → r ≡ isKnownList s → r ≡ isKnownFile s
-short s h r e = simp (le-leb (length s) most h) e
+short : (s : List ℕ) → length s ≤ longest → (r : Bool) → r ≡ isKnownList s → r ≡ isKnownFile s
+short s h r e = simp (le-leb (length s) longest h) e
 
 returns : tie.Need-returns
 returns c = long (c .before .before .args .s .now) (c .if1 .taken)

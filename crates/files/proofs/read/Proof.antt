@@ -8,7 +8,7 @@ use lib.Dec.{eqb}
 use lib.ListN.{length}
 use borrow.Author.Tests.{eq-eqb, ne-eqb, not-true, not-false}
 use Rattle.base.specs.Bytes.{over}
-use Rattle.findings.specs.declared.refusal.Refusal.the-variants as refusal
+use Rattle.lent.specs.declared.Refusal.the-variants as refusal
 use Rattle.files.specs.declared.Given.the-variants.{Files, Refused}
 use Rattle.files.specs.Files.{dayOf, numbers, isBanks, isKnownFile, givenBy, ReadAs}
 use Rattle.files.proofs.Says.{banks-fit}
@@ -48,7 +48,8 @@ day-requires c κs = search needs
 returns : tie.Need-returns
 returns c =
     let c1 = c .before .before .before .before .before .before in
-    no-day (c1 .args .day-file .now) (c1 .args .banks .now) (c1 .args .known .now) (c1 .args .list .now) (c .before .day .result) (c .before .day .ensures) (c .if1 .taken)
+    no-day (c1 .args .day-file .now) (c1 .args .banks .now) (c1 .args .known .now) (c1 .args .list .now) (c .before .day .result) (c .before .day .ensures)
+    (c .if1 .taken)
 
 is-banks-requires : tie.Need-is-banks-requires
 is-banks-requires c κs = search needs
@@ -58,7 +59,8 @@ returns-2 c =
     let c1 = c .before .before in
     let c2 = c1 .before in
     let c3 = c2 .before .before .before .before .before in
-    no-banks (c3 .args .day-file .now) (c3 .args .banks .now) (c3 .args .known .now) (c3 .args .list .now) (c2 .day .result) (c2 .day .ensures) (c1 .if1 .left) (c .before .is-banks .result) (c .before .is-banks .ensures) (not-true _ (c .if2 .taken))
+    no-banks (c3 .args .day-file .now) (c3 .args .banks .now) (c3 .args .known .now) (c3 .args .list .now) (c2 .day .result) (c2 .day .ensures) (c1 .if1 .left)
+    (c .before .is-banks .result) (c .before .is-banks .ensures) (not-true _ (c .if2 .taken))
 
 is-known-requires : tie.Need-is-known-requires
 is-known-requires c κs = search needs
@@ -70,7 +72,9 @@ returns-3 c =
     let c3 = c2 .before in
     let c4 = c3 .before in
     let c5 = c4 .before .before .before .before .before in
-    no-known (c5 .args .day-file .now) (c5 .args .banks .now) (c5 .args .known .now) (c5 .args .list .now) (c4 .day .result) (c4 .day .ensures) (c3 .if1 .left) (c2 .is-banks .result) (c2 .is-banks .ensures) (not-false _ (c1 .if2 .left)) (c .before .is-known .result) (c .before .is-known .ensures) (not-true _ (c .if3 .taken))
+    no-known (c5 .args .day-file .now) (c5 .args .banks .now) (c5 .args .known .now) (c5 .args .list .now) (c4 .day .result) (c4 .day .ensures) (c3 .if1 .left)
+    (c2 .is-banks .result) (c2 .is-banks .ensures) (not-false _ (c1 .if2 .left)) (c .before .is-known .result) (c .before .is-known .ensures)
+    (not-true _ (c .if3 .taken))
 
 fill-requires : tie.Need-fill-requires
 fill-requires c κs =
@@ -79,7 +83,8 @@ fill-requires c κs =
     let c3 = c2 .before in
     let c4 = c3 .before in
     let c5 = c4 .before .before .before .before .before in
-    room (c5 .args .day-file .now) (c5 .args .banks .now) (c5 .args .known .now) (c5 .args .list .now) (c4 .day .result) (c4 .day .ensures) (c3 .if1 .left) (c2 .is-banks .result) (c2 .is-banks .ensures) (not-false _ (c1 .if2 .left))
+    room (c5 .args .day-file .now) (c5 .args .banks .now) (c5 .args .known .now) (c5 .args .list .now) (c4 .day .result) (c4 .day .ensures) (c3 .if1 .left)
+    (c2 .is-banks .result) (c2 .is-banks .ensures) (not-false _ (c1 .if2 .left))
 
 same-length : tie.Need-same-length
 same-length c = search needs
@@ -94,7 +99,9 @@ returns-4 c =
     let c6 = c5 .before in
     let c7 = c6 .before in
     let c8 = c7 .before .before .before .before .before in
-    given (c8 .args .day-file .now) (c8 .args .banks .now) (c8 .args .known .now) (c8 .args .list .now) (c7 .day .result) (c7 .day .ensures) (c6 .if1 .left) (c5 .is-banks .result) (c5 .is-banks .ensures) (not-false _ (c4 .if2 .left)) (c3 .is-known .result) (c3 .is-known .ensures) (not-false _ (c2 .if3 .left)) _ (c1 .fill .ensures)
+    given (c8 .args .day-file .now) (c8 .args .banks .now) (c8 .args .known .now) (c8 .args .list .now) (c7 .day .result) (c7 .day .ensures) (c6 .if1 .left)
+    (c5 .is-banks .result) (c5 .is-banks .ensures) (not-false _ (c4 .if2 .left)) (c3 .is-known .result) (c3 .is-known .ensures) (not-false _ (c2 .if3 .left)) _
+    (c1 .fill .ensures)
 
 pub read-spec : {M : Type 1} → statement M
 read-spec =

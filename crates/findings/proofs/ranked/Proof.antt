@@ -31,7 +31,9 @@ returns : tie.Need-returns
 returns c = right (c .before .before .args .f) (c .before .before .args .code) (c .before .before .args .later) (c .enum-told .given .1)
 
 returns-2 : tie.Need-returns-2
-returns-2 c = fault (c .before .before .before .args .f) (c .before .before .before .args .code) (c .before .before .before .args .later) (c .before .enum-told2 .given .1) (c .earlier .result) (c .earlier .ensures)
+returns-2 c =
+    let c1 = c .before .before .before in
+    fault (c1 .args .f) (c1 .args .code) (c1 .args .later) (c .before .enum-told2 .given .1) (c .earlier .result) (c .earlier .ensures)
 
 pub ranked-spec : {M : Type 1} → statement M
 ranked-spec = tie.close (tie.spec enum-told enum-told-2 earlier-requires returns returns-2)

@@ -7,7 +7,8 @@ use types.Run.{OneOf, miss}
 use denote.Enum.Declared.{tagOf}
 use Rattle.frame.specs.Machine.{earlier}
 use Rattle.findings.specs.declared.Kind.{Kind}
-use Rattle.findings.specs.declared.Kind.the-variants.{Letter, Mark, Form, NotDigits, CheckDigit, NoDate, OutsideDays, NotListed, Known, BlankOrZero, OutOfOrder, Other}
+use Rattle.findings.specs.declared.Kind.the-variants.{Letter, Mark, Form, NotDigits, CheckDigit, NoDate}
+use Rattle.findings.specs.declared.Kind.the-variants.{OutsideDays, NotListed, Known, BlankOrZero, OutOfOrder, Other}
 use Rattle.findings.specs.declared.Finding.{Finding}
 use Rattle.findings.specs.declared.Finding.the-variants.{Right, Fault}
 use Rattle.findings.proofs.Kind.{the-type}
@@ -57,13 +58,25 @@ earlier-requires-2 : tie.Need-earlier-requires-2
 earlier-requires-2 c κs = search needs
 
 returns : tie.Need-returns
-returns c = right (c .before .before .args .f) (c .before .before .args .digits) (c .before .before .args .other) (c .before .before .args .later) (c .enum-told .given .1)
+returns c =
+    let a = c .before .before .args in
+    right (a .f) (a .digits) (a .other) (a .later) (c .enum-told .given .1)
 
 returns-2 : tie.Need-returns-2
-returns-2 c = fault (c .before .before .before .before .before .before .args .f) (c .before .before .before .before .before .before .args .digits) (c .before .before .before .before .before .before .args .other) (c .before .before .before .before .before .before .args .later) (c .before .before .before .before .f .given .1) (sym (ap (digitsElse (c .before .before .before .before .before .before .args .digits) (c .before .before .before .before .before .before .args .other)) (c .before .enum-told2 .given .1))) (c .earlier .result) (c .earlier .ensures)
+returns-2 c =
+    let told = c .before in
+    let found = told .before .before .before in
+    let a = found .before .before .args in
+    let code = sym (ap (digitsElse (a .digits) (a .other)) (told .enum-told2 .given .1)) in
+    fault (a .f) (a .digits) (a .other) (a .later) (found .f .given .1) code (c .earlier .result) (c .earlier .ensures)
 
 returns-3 : tie.Need-returns-3
-returns-3 c = fault (c .before .before .before .before .before .args .f) (c .before .before .before .before .before .args .digits) (c .before .before .before .before .before .args .other) (c .before .before .before .before .before .args .later) (c .before .before .before .f .given .1) (other (c .before .before .before .before .before .args .digits) (c .before .before .before .before .before .args .other) (c .before .before .before .f .given .0 .0) (c .before .match2 .keys2)) (c .earlier2 .result) (c .earlier2 .ensures)
+returns-3 c =
+    let arm = c .before in
+    let found = arm .before .before in
+    let a = found .before .before .args in
+    let code = other (a .digits) (a .other) (found .f .given .0 .0) (arm .match2 .keys2) in
+    fault (a .f) (a .digits) (a .other) (a .later) (found .f .given .1) code (c .earlier2 .result) (c .earlier2 .ensures)
 
 pub ranked-else-spec : {M : Type 1} → statement M
 ranked-else-spec =

@@ -1,12 +1,12 @@
 -- `frame::identifier` meets its contract: the bytes copied so far, and spaces after them.
 -- Assumes nothing.
-use mathlib.Core.Path.{_≡_, refl, sym, ap, _∙_}
+use mathlib.Core.Path.{_≡_, refl, ap, _∙_}
 use mathlib.Core.List.{List, [], _∷_, _++_, append-nil}
 use Prim.Native.Nat.{ℕ, suc, _+_, _-_, _≤_, _<_}
 use native.Mathlib.Numerals.{add-one}
 use native.Mathlib.Omega.{arith}
-use lib.ListN.{length, getD, set, take, drop, replicate, length-append, length-replicate, length-drop}
-use lib.Seq.{set-at, take-suc, take-all, append-snoc, length-take-le, getD-drop}
+use lib.ListN.{length, getD, set, take, drop, replicate, length-drop}
+use lib.Seq.{set-at, take-suc, append-snoc, length-take-le, getD-drop}
 use borrow.Author.Tests.{le-leb, lt-leb}
 use Rattle.frame.specs.Records.{idOf, noId}
 use borrow.Author.Needs.{needs}

@@ -1,15 +1,14 @@
 -- `frame::record_at` meets its contract: the tests that led to each answer say what stands there.
 -- Assumes nothing.
-use mathlib.Core.Path.{_≡_, sym, ap, _∙_}
-use mathlib.Core.Bool.{Bool, true, false, _&&_, and-false}
+use mathlib.Core.Path.{_≡_, sym, _∙_}
+use mathlib.Core.Bool.{true, false, cond, _&&_, and-false}
 use mathlib.Core.List.{List}
-use Prim.Native.Nat.{ℕ, _-_, _%_, _≤_, _<_}
-use native.Mathlib.Omega.{arith}
+use Prim.Native.Nat.{ℕ, _≤_, _<_}
 use lib.Dec.{leb, eqb}
 use lib.ListN.{length}
 use borrow.Author.Tests.{eq-eqb, ne-eqb, le-leb, lt-leb}
-use Rattle.frame.specs.Records.{ended}
-use Rattle.frame.specs.Places.{laterAt, recordAt}
+use Rattle.frame.specs.Records.{lengths, headEnd, footEnd, headStands}
+use Rattle.frame.specs.Places.{beyond, laterAt, recordAt}
 use Rattle.frame.specs.declared.Record.{Record}
 use Rattle.frame.specs.declared.Record.the-variants.{Head, Break, End}
 use borrow.Author.Needs.{needs}
@@ -17,70 +16,98 @@ use Rattle.frame.proofs.record_at.Statement.{statement}
 use Rattle.frame.proofs.record_at.Tie as tie
 
 module _ (m : List ℕ) (at : ℕ) where
-  head : at ≡ 0 → ended 174 m ≡ true → Head 0 176 ≡ recordAt m at
+  head : at ≡ 0 → headStands lengths m ≡ true → Head 0 headEnd ≡ recordAt m at
   unfolding recordAt
   head z e = rw (eq-eqb at 0 z, e)
 
-  headless : at ≡ 0 → ended 174 m ≡ false → Break ≡ recordAt m at
+  headless : at ≡ 0 → headStands lengths m ≡ false → Break ≡ recordAt m at
   unfolding recordAt
   headless z e = rw (eq-eqb at 0 z, e)
 
   module _ (z : at ≡ 0 → ⊥) where
-    low : at < 176 → Break ≡ recordAt m at
+    low : at < headEnd → Break ≡ recordAt m at
     unfolding recordAt
-    low h = rw (ne-eqb at 0 z, lt-leb 176 at h)
+    low h = rw (ne-eqb at 0 z, lt-leb headEnd at h)
 
     past : length m < at → Break ≡ recordAt m at
     unfolding recordAt
-    past h = rw (ne-eqb at 0 z, lt-leb at (length m) h, and-false (leb 176 at))
+    past h = rw (ne-eqb at 0 z, lt-leb at (length m) h, and-false (leb headEnd at))
 
-    module _ (h : 176 ≤ at) (k : at ≤ length m) where
-      later : (at - 176) % 251 ≡ 0 → (r : Record) → r ≡ laterAt m at → r ≡ recordAt m at
+    -- after the head, in the message
+    module _ (h : headEnd ≤ at) (k : at ≤ length m) where
+      there : recordAt m at ≡ cond (eqb (beyond at) 0) (laterAt m at) (cond (eqb at (length m) && eqb (beyond at) footEnd) End Break)
       unfolding recordAt
-      later e r q = rw (ne-eqb at 0 z, le-leb 176 at h, le-leb at (length m) k, eq-eqb ((at - 176) % 251) 0 e) q
+      there = rw (ne-eqb at 0 z, le-leb headEnd at h, le-leb at (length m) k)
 
-      end : at ≡ length m → (at - 176) % 251 ≡ 26 → End ≡ recordAt m at
-      unfolding recordAt
-      end e f = rw (ne-eqb at 0 z, le-leb 176 at h, le-leb at (length m) k, f, eq-eqb at (length m) e)
+      later : beyond at ≡ 0 → (r : Record) → r ≡ laterAt m at → r ≡ recordAt m at
+      later e r q = rw (there, eq-eqb (beyond at) 0 e) q
 
-      module _ (n : (at - 176) % 251 ≡ 0 → ⊥) where
-        no-place : ((at - 176) % 251 ≡ 26 → ⊥) → Break ≡ recordAt m at
-        unfolding recordAt
-        no-place f = rw (ne-eqb at 0 z, le-leb 176 at h, le-leb at (length m) k, ne-eqb ((at - 176) % 251) 0 n, ne-eqb ((at - 176) % 251) 26 f, and-false (eqb at (length m)))
+      end : at ≡ length m → beyond at ≡ footEnd → End ≡ recordAt m at
+      end e f = rw (there, f, eq-eqb at (length m) e)
+
+      module _ (n : beyond at ≡ 0 → ⊥) where
+        no-place : (beyond at ≡ footEnd → ⊥) → Break ≡ recordAt m at
+        no-place f = rw (there, ne-eqb (beyond at) 0 n, ne-eqb (beyond at) footEnd f, and-false (eqb at (length m)))
 
         no-end : (at ≡ length m → ⊥) → Break ≡ recordAt m at
-        unfolding recordAt
-        no-end f = rw (ne-eqb at 0 z, le-leb 176 at h, le-leb at (length m) k, ne-eqb ((at - 176) % 251) 0 n, ne-eqb at (length m) f)
+        no-end f = rw (there, ne-eqb (beyond at) 0 n, ne-eqb at (length m) f)
 
 has-ending-requires : tie.Need-has-ending-requires
 has-ending-requires c κs = search needs
 
 returns : tie.Need-returns
-returns c = head (c .before .before .before .before .args .message .now) (c .before .before .before .before .args .at) (c .before .before .if1 .taken) (sym (c .before .has-ending .ensures) ∙ c .if2 .taken)
+returns c =
+    let b = c .before .before in
+    let a = b .before .before .args in
+    head (a .message .now) (a .at) (b .if1 .taken) (sym (c .before .has-ending .ensures) ∙ c .if2 .taken)
 
 returns-2 : tie.Need-returns-2
-returns-2 c = headless (c .before .before .before .before .args .message .now) (c .before .before .before .before .args .at) (c .before .before .if1 .taken) (sym (c .before .has-ending .ensures) ∙ c .if2 .left)
+returns-2 c =
+    let b = c .before .before in
+    let a = b .before .before .args in
+    headless (a .message .now) (a .at) (b .if1 .taken) (sym (c .before .has-ending .ensures) ∙ c .if2 .left)
 
 returns-3 : tie.Need-returns-3
-returns-3 c = low (c .before .before .before .args .message .now) (c .before .before .before .args .at) (c .before .if1 .left) (c .if3 .taken)
+returns-3 c =
+    let a = c .before .before .before .args in
+    low (a .message .now) (a .at) (c .before .if1 .left) (c .if3 .taken)
 
 returns-4 : tie.Need-returns-4
-returns-4 c = past (c .before .before .before .before .args .message .now) (c .before .before .before .before .args .at) (c .before .before .if1 .left) (c .if4 .taken)
+returns-4 c =
+    let b = c .before .before in
+    let a = b .before .before .args in
+    past (a .message .now) (a .at) (b .if1 .left) (c .if4 .taken)
 
 later-at-requires : tie.Need-later-at-requires
 later-at-requires c κs = (c .before .before .if3 .left, c .before .if4 .left)
 
 returns-5 : tie.Need-returns-5
-returns-5 c = later (c .before .before .before .before .before .before .args .message .now) (c .before .before .before .before .before .before .args .at) (c .before .before .before .before .if1 .left) (c .before .before .before .if3 .left) (c .before .before .if4 .left) (c .before .if5 .taken) (c .later-at .result) (c .later-at .ensures)
+returns-5 c =
+    let b = c .before .before in
+    let d = b .before .before in
+    let a = d .before .before .args in
+    later (a .message .now) (a .at) (d .if1 .left) (b .before .if3 .left) (b .if4 .left) (c .before .if5 .taken) (c .later-at .result) (c .later-at .ensures)
 
 returns-6 : tie.Need-returns-6
-returns-6 c = end (c .before .before .before .before .before .before .before .args .message .now) (c .before .before .before .before .before .before .before .args .at) (c .before .before .before .before .before .if1 .left) (c .before .before .before .before .if3 .left) (c .before .before .before .if4 .left) (c .before .if6 .taken) (c .if7 .taken)
+returns-6 c =
+    let b = c .before .before .before in
+    let d = b .before .before in
+    let a = d .before .before .args in
+    end (a .message .now) (a .at) (d .if1 .left) (b .before .if3 .left) (b .if4 .left) (c .before .if6 .taken) (c .if7 .taken)
 
 returns-7 : tie.Need-returns-7
-returns-7 c = no-place (c .before .before .before .before .before .before .before .args .message .now) (c .before .before .before .before .before .before .before .args .at) (c .before .before .before .before .before .if1 .left) (c .before .before .before .before .if3 .left) (c .before .before .before .if4 .left) (c .before .before .if5 .left) (c .if7 .left)
+returns-7 c =
+    let b = c .before .before .before in
+    let d = b .before .before in
+    let a = d .before .before .args in
+    no-place (a .message .now) (a .at) (d .if1 .left) (b .before .if3 .left) (b .if4 .left) (c .before .before .if5 .left) (c .if7 .left)
 
 returns-8 : tie.Need-returns-8
-returns-8 c = no-end (c .before .before .before .before .before .before .args .message .now) (c .before .before .before .before .before .before .args .at) (c .before .before .before .before .if1 .left) (c .before .before .before .if3 .left) (c .before .before .if4 .left) (c .before .if5 .left) (c .if6 .left)
+returns-8 c =
+    let b = c .before .before in
+    let d = b .before .before in
+    let a = d .before .before .args in
+    no-end (a .message .now) (a .at) (d .if1 .left) (b .before .if3 .left) (b .if4 .left) (c .before .if5 .left) (c .if6 .left)
 
 pub record-at-spec : {M : Type 1} → statement M
 record-at-spec =

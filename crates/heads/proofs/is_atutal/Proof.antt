@@ -14,7 +14,8 @@ use Rattle.heads.proofs.is_atutal.Statement.{statement}
 use Rattle.heads.proofs.is_atutal.Tie as tie
 
 six : (s : List ℕ) → length s ≡ 6
-    → eqb (getD s 0 0) 65 && (eqb (getD s 1 0) 84 && (eqb (getD s 2 0) 85 && (eqb (getD s 3 0) 84 && (eqb (getD s 4 0) 65 && eqb (getD s 5 0) 76)))) ≡ same s (ascii "ATUTAL")
+    → eqb (getD s 0 0) 65 && (eqb (getD s 1 0) 84 && (eqb (getD s 2 0) 85 && (eqb (getD s 3 0) 84 && (eqb (getD s 4 0) 65 && eqb (getD s 5 0) 76))))
+    ≡ same s (ascii "ATUTAL")
 six [] e = absurd (omega arith)
 six (a ∷ []) e = absurd (omega arith)
 six (a ∷ b ∷ []) e = absurd (omega arith)

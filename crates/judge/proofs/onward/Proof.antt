@@ -2,25 +2,43 @@
 -- Assumes nothing.
 use native.Mathlib.Omega.{arith}
 use lib.ListN.{length-drop}
+use Rattle.lent.specs.Lent.{lent}
+use Rattle.frame.specs.Verdict.{Rules}
+use Rattle.atutal.specs.Codes.{rules}
 use Rattle.judge.proofs.Turn.{onward-partial, onward-became}
 use borrow.Author.Needs.{needs}
 use Rattle.judge.proofs.onward.Statement.{statement}
 use Rattle.judge.proofs.onward.Tie as tie
 
+-- the rules for what is lent
+abbrev R : tie.Start → Rules
+R c = rules (lent (c .args .day) (c .args .banks .now) (c .args .known .now))
+
 walk-requires : tie.Need-walk-requires
 walk-requires c κs = search needs
 
 sub-ended : tie.Need-sub-ended
-sub-ended c = omega (arith, c .before .before .before .before .walk .ensures .past, c .before .before .before .before .walk .ensures .within, c .before .before .before .before .before .before .before .before .before .before .before .pre .1 .1, length-drop (c .before .before .before .before .before .before .before .before .before .before .before .args .from) (c .before .before .before .before .before .before .before .before .before .before .before .args .piece .now))
+sub-ended c =
+    let c1 = c .before .before .before .before in
+    let c2 = c1 .before .before .before .before .before .before .before in
+    omega (arith, c1 .walk .ensures .past, c1 .walk .ensures .within, c2 .pre .1 .1, length-drop (c2 .args .from) (c2 .args .piece .now))
 
 part-ended-start : tie.Need-part-ended-start
-part-ended-start c = omega (arith, c .before .before .before .before .walk .ensures .past, c .before .before .before .before .walk .ensures .within, c .before .before .before .before .before .before .before .before .before .before .before .pre .1 .1, length-drop (c .before .before .before .before .before .before .before .before .before .before .before .args .from) (c .before .before .before .before .before .before .before .before .before .before .before .args .piece .now))
+part-ended-start c =
+    let c1 = c .before .before .before .before in
+    let c2 = c1 .before .before .before .before .before .before .before in
+    omega (arith, c1 .walk .ensures .past, c1 .walk .ensures .within, c2 .pre .1 .1, length-drop (c2 .args .from) (c2 .args .piece .now))
 
 part-ended-end : tie.Need-part-ended-end
 part-ended-end c = search needs
 
 ended-requires : tie.Need-ended-requires
-ended-requires c κs = (c .before .before .before .before .before .before .before .before .before .before .before .before .pre .1 .0, onward-partial (c .before .before .before .before .before .before .before .before .before .before .before .before .args .day) (c .before .before .before .before .before .before .before .before .before .before .before .before .args .banks .now) (c .before .before .before .before .before .before .before .before .before .before .before .before .args .known .now) (c .before .before .before .before .before .before .before .before .before .before .before .before .args .tally) (c .before .before .before .before .before .before .before .before .before .before .before .before .args .table .now) (c .before .before .before .before .before .before .before .before .before .before .before .before .args .piece .now) (c .before .before .before .before .before .before .before .before .before .before .before .before .args .from) (c .before .before .before .before .before .walk .result) _ (c .before .before .before .before .before .walk .ensures))
+ended-requires c κs =
+    let c1 = c .before .before .before .before .before in
+    let c2 = c1 .before .before .before .before .before .before .before in (
+      c2 .pre .1 .0,
+      onward-partial (R c2) (c2 .args .tally) (c2 .args .table .now) (c2 .args .piece .now) (c2 .args .from) (c1 .walk .result) _ (c1 .walk .ensures),
+    )
 
 same-length : tie.Need-same-length
 same-length c = search needs
@@ -29,7 +47,12 @@ same-length-2 : tie.Need-same-length-2
 same-length-2 c = search needs
 
 returns : tie.Need-returns
-returns c = onward-became (c .before .before .before .before .before .before .before .before .before .before .before .before .before .before .before .args .day) (c .before .before .before .before .before .before .before .before .before .before .before .before .before .before .before .args .banks .now) (c .before .before .before .before .before .before .before .before .before .before .before .before .before .before .before .args .known .now) (c .before .before .before .before .before .before .before .before .before .before .before .before .before .before .before .args .tally) (c .before .before .before .before .before .before .before .before .before .before .before .before .before .before .before .args .table .now) (c .before .before .before .before .before .before .before .before .before .before .before .before .before .before .before .args .piece .now) (c .before .before .before .before .before .before .before .before .before .before .before .before .before .before .before .args .from) (c .before .before .before .before .before .before .before .before .walk .result) _ (c .before .before .before .before .before .before .before .before .walk .ensures) (c .before .before .ended .ensures)
+returns c =
+    let c1 = c .before .before in
+    let c2 = c1 .before .before .before .before .before .before in
+    let c3 = c2 .before .before .before .before .before .before .before in
+    onward-became (R c3) (c3 .args .tally) (c3 .args .table .now) (c3 .args .piece .now) (c3 .args .from) (c2 .walk .result) _ (c2 .walk .ensures)
+    (c1 .ended .ensures)
 
 pub onward-spec : {M : Type 1} → statement M
 onward-spec =

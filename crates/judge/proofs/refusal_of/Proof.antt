@@ -2,80 +2,108 @@
 -- Assumes nothing.
 use mathlib.Core.Path.{_≡_}
 use mathlib.Core.Bool.{Bool, true, false, not}
-use mathlib.Core.List.{List}
 use Prim.Native.Nat.{ℕ}
 use lib.ListN.{length}
 use borrow.Author.Tests.{not-true, not-false, eq-eqb, ne-eqb}
-use Rattle.lists.specs.Banks.{isBankList}
-use Rattle.lists.specs.Known.{isKnownList}
-use Rattle.findings.specs.declared.refusal.Refusal.the-variants as refusal
+use Rattle.lent.specs.Lent.{Lists, listed, listRefused}
+use Rattle.lent.specs.declared.Refusal.{Refusal}
+use Rattle.lent.specs.declared.Refusal.the-variants as refusal
+use Rattle.lent.specs.declared.Outcome.{Outcome}
+use Rattle.lent.specs.declared.Outcome.the-variants.{Done, Refused}
+use Rattle.lent.proofs.Arms.{done}
 use Rattle.judge.specs.declared.Session.{Session}
-use Rattle.judge.specs.declared.Outcome.the-variants.{Done, Refused}
-use Rattle.judge.specs.Session.{inRange, partsOf}
-use Rattle.judge.specs.Reading.{refusalOf}
+use Rattle.judge.specs.Session.{longest, inRange, pieceRefused, partsOf, partsRefused}
 use borrow.Author.Needs.{needs}
 use Rattle.judge.proofs.refusal_of.Statement.{statement}
 use Rattle.judge.proofs.refusal_of.Tie as tie
 
-module _ (s : Session) (banks known : List ℕ) (n : ℕ) where
-  no-length : (length (s .held) ≡ 251 → ⊥) → Refused refusal.Session ≡ refusalOf s banks known n
-  unfolding refusalOf
-  no-length l = rw (ne-eqb (length (s .held)) 251 l)
+module _ (s : Session) (l : Lists) (n : ℕ) where
+  no-length : (length (s .held) ≡ longest → ⊥) → Refused refusal.Session ≡ partsRefused s l n
+  unfolding partsRefused
+  no-length h = rw (ne-eqb (length (s .held)) longest h)
 
-  module _ (l : length (s .held) ≡ 251) (a : Bool) (i : a ≡ inRange s) where
-    no-session : not a ≡ true → Refused refusal.Session ≡ refusalOf s banks known n
-    unfolding refusalOf
-    no-session f = rw (eq-eqb (length (s .held)) 251 l, ← i, not-true a f)
+  module _ (h : length (s .held) ≡ longest) {a : Bool} (i : a ≡ inRange s) where
+    no-session : not a ≡ true → Refused refusal.Session ≡ partsRefused s l n
+    unfolding partsRefused pieceRefused
+    no-session f = rw (eq-eqb (length (s .held)) longest h, ← i, not-true a f)
 
-    module _ (f : not a ≡ false) (b : Bool) (j : b ≡ isBankList banks) where
-      no-banks : not b ≡ true → Refused refusal.BankList ≡ refusalOf s banks known n
-      unfolding refusalOf
-      no-banks g = rw (eq-eqb (length (s .held)) 251 l, ← i, not-false a f, ← j, not-true b g)
+    module _ (f : not a ≡ false) {o : Outcome} (j : o ≡ listRefused l) where
+      no-list : (r : Refusal) → o ≡ Refused r → Refused r ≡ partsRefused s l n
+      unfolding partsRefused pieceRefused
+      no-list r q = rw (eq-eqb (length (s .held)) longest h, ← i, not-false a f, ← j, q)
 
-      module _ (g : not b ≡ false) (c : Bool) (k : c ≡ isKnownList known) where
-        no-known : not c ≡ true → Refused refusal.KnownList ≡ refusalOf s banks known n
-        unfolding refusalOf
-        no-known h = rw (eq-eqb (length (s .held)) 251 l, ← i, not-false a f, ← j, not-false b g, ← k, not-true c h)
+      module _ (q : o ≡ Done) where
+        no-table : (n ≡ s .room → ⊥) → Refused refusal.Table ≡ partsRefused s l n
+        unfolding partsRefused pieceRefused
+        no-table m = rw (eq-eqb (length (s .held)) longest h, ← i, not-false a f, ← j, q, ne-eqb n (s .room) m)
 
-        module _ (h : not c ≡ false) where
-          no-table : (n ≡ s .room → ⊥) → Refused refusal.Table ≡ refusalOf s banks known n
-          unfolding refusalOf
-          no-table m = rw (eq-eqb (length (s .held)) 251 l, ← i, not-false a f, ← j, not-false b g, ← k, not-false c h, ne-eqb n (s .room) m)
+        passes : n ≡ s .room → Done ≡ partsRefused s l n
+        unfolding partsRefused pieceRefused
+        passes m = rw (eq-eqb (length (s .held)) longest h, ← i, not-false a f, ← j, q, eq-eqb n (s .room) m)
 
-          done : n ≡ s .room → Done ≡ refusalOf s banks known n
-          unfolding refusalOf
-          done m = rw (eq-eqb (length (s .held)) 251 l, ← i, not-false a f, ← j, not-false b g, ← k, not-false c h, eq-eqb n (s .room) m)
-
--- the session given
+-- the session and the lists given
 abbrev given : tie.Start → Session
 given c = partsOf (c .args .day) (c .args .room) (c .args .tally) (c .args .fill) (c .args .held .now)
 
+abbrev lists : tie.Start → Lists
+lists c = listed (c .args .banks .now) (c .args .known .now)
+
 returns : tie.Need-returns
-returns c = no-length (given (c .before .before .before .before)) (c .before .before .before .before .args .banks .now) (c .before .before .before .before .args .known .now) (c .before .before .before .before .args .len) (c .if1 .taken)
+returns c =
+    let c1 = c .before .before .before .before in
+    no-length (given c1) (lists c1) (c1 .args .len) (c .if1 .taken)
 
 in-range-requires : tie.Need-in-range-requires
 in-range-requires c κs = search needs
 
 returns-2 : tie.Need-returns-2
-returns-2 c = no-session (given (c .before .before .before .before .before .before)) (c .before .before .before .before .before .before .args .banks .now) (c .before .before .before .before .before .before .args .known .now) (c .before .before .before .before .before .before .args .len) (c .before .before .if1 .left) (c .before .in-range .result) (c .before .in-range .ensures) (c .if2 .taken)
+returns-2 c =
+    let c1 = c .before in
+    let c2 = c1 .before in
+    let c3 = c2 .before .before .before .before in
+    no-session (given c3) (lists c3) (c3 .args .len) (c2 .if1 .left) (c1 .in-range .ensures) (c .if2 .taken)
 
-is-bank-list-requires : tie.Need-is-bank-list-requires
-is-bank-list-requires c κs = search needs
+list-refused-requires : tie.Need-list-refused-requires
+list-refused-requires c κs = search needs
+
+enum-known-r : tie.Need-enum-known-r
+enum-known-r c = search needs
+
+enum-told : tie.Need-enum-told
+enum-told c = search needs
 
 returns-3 : tie.Need-returns-3
-returns-3 c = no-banks (given (c .before .before .before .before .before .before .before .before)) (c .before .before .before .before .before .before .before .before .args .banks .now) (c .before .before .before .before .before .before .before .before .args .known .now) (c .before .before .before .before .before .before .before .before .args .len) (c .before .before .before .before .if1 .left) (c .before .before .before .in-range .result) (c .before .before .before .in-range .ensures) (c .before .before .if2 .left) (c .before .is-bank-list .result) (c .before .is-bank-list .ensures) (c .if3 .taken)
-
-is-known-list-requires : tie.Need-is-known-list-requires
-is-known-list-requires c κs = search needs
+returns-3 c =
+    let c1 = c .before .before in
+    let c2 = c1 .before in
+    let c3 = c2 .before in
+    let c4 = c3 .before in
+    let c5 = c4 .before in
+    let c6 = c5 .before .before .before .before in
+    no-table (given c6) (lists c6) (c6 .args .len) (c5 .if1 .left) (c4 .in-range .ensures) (c3 .if2 .left) (c2 .list-refused .ensures)
+    (done (c2 .list-refused .result) (c1 .match .keys2)) (c .if3 .taken)
 
 returns-4 : tie.Need-returns-4
-returns-4 c = no-known (given (c .before .before .before .before .before .before .before .before .before .before)) (c .before .before .before .before .before .before .before .before .before .before .args .banks .now) (c .before .before .before .before .before .before .before .before .before .before .args .known .now) (c .before .before .before .before .before .before .before .before .before .before .args .len) (c .before .before .before .before .before .before .if1 .left) (c .before .before .before .before .before .in-range .result) (c .before .before .before .before .before .in-range .ensures) (c .before .before .before .before .if2 .left) (c .before .before .before .is-bank-list .result) (c .before .before .before .is-bank-list .ensures) (c .before .before .if3 .left) (c .before .is-known-list .result) (c .before .is-known-list .ensures) (c .if4 .taken)
+returns-4 c =
+    let c1 = c .before in
+    let c2 = c1 .before .before in
+    let c3 = c2 .before in
+    let c4 = c3 .before in
+    let c5 = c4 .before in
+    let c6 = c5 .before .before .before .before in
+    no-list (given c6) (lists c6) (c6 .args .len) (c5 .if1 .left) (c4 .in-range .ensures) (c3 .if2 .left) (c2 .list-refused .ensures)
+    (c1 .r .given .0 .0) (c1 .r .given .1)
 
 returns-5 : tie.Need-returns-5
-returns-5 c = no-table (given (c .before .before .before .before .before .before .before .before .before .before .before)) (c .before .before .before .before .before .before .before .before .before .before .before .args .banks .now) (c .before .before .before .before .before .before .before .before .before .before .before .args .known .now) (c .before .before .before .before .before .before .before .before .before .before .before .args .len) (c .before .before .before .before .before .before .before .if1 .left) (c .before .before .before .before .before .before .in-range .result) (c .before .before .before .before .before .before .in-range .ensures) (c .before .before .before .before .before .if2 .left) (c .before .before .before .before .is-bank-list .result) (c .before .before .before .before .is-bank-list .ensures) (c .before .before .before .if3 .left) (c .before .before .is-known-list .result) (c .before .before .is-known-list .ensures) (c .before .if4 .left) (c .if5 .taken)
-
-returns-6 : tie.Need-returns-6
-returns-6 c = done (given (c .before .before .before .before .before .before .before .before .before .before .before)) (c .before .before .before .before .before .before .before .before .before .before .before .args .banks .now) (c .before .before .before .before .before .before .before .before .before .before .before .args .known .now) (c .before .before .before .before .before .before .before .before .before .before .before .args .len) (c .before .before .before .before .before .before .before .if1 .left) (c .before .before .before .before .before .before .in-range .result) (c .before .before .before .before .before .before .in-range .ensures) (c .before .before .before .before .before .if2 .left) (c .before .before .before .before .is-bank-list .result) (c .before .before .before .before .is-bank-list .ensures) (c .before .before .before .if3 .left) (c .before .before .is-known-list .result) (c .before .before .is-known-list .ensures) (c .before .if4 .left) (c .if5 .left)
+returns-5 c =
+    let c1 = c .before .before in
+    let c2 = c1 .before in
+    let c3 = c2 .before in
+    let c4 = c3 .before in
+    let c5 = c4 .before in
+    let c6 = c5 .before .before .before .before in
+    passes (given c6) (lists c6) (c6 .args .len) (c5 .if1 .left) (c4 .in-range .ensures) (c3 .if2 .left) (c2 .list-refused .ensures)
+    (done (c2 .list-refused .result) (c1 .match .keys2)) (c .if3 .left)
 
 pub refusal-of-spec : {M : Type 1} → statement M
 refusal-of-spec =
@@ -84,9 +112,9 @@ refusal-of-spec =
     returns
     in-range-requires
     returns-2
-    is-bank-list-requires
+    list-refused-requires
+    enum-known-r
+    enum-told
     returns-3
-    is-known-list-requires
     returns-4
-    returns-5
-    returns-6)
+    returns-5)

@@ -1,6 +1,6 @@
 -- `leaves::every_byte` is safe and ends.
 -- Assumes nothing.
-use Prim.Native.Nat.{_+_, _-_, _≤_}
+use Prim.Native.Nat.{_-_, _≤_}
 use borrow.Author.Needs.{needs}
 use Rattle.leaves.proofs.every_byte.Statement.{statement}
 use Rattle.leaves.proofs.every_byte.Tie as tie

@@ -1,6 +1,6 @@
 -- `leaves::rises` is safe: the place is at least 1.
 -- Assumes nothing.
-use Prim.Native.Nat.{_+_, _-_, _≤_}
+use Prim.Native.Nat.{_-_, _≤_}
 use lib.ListN.{length}
 use borrow.Author.Needs.{needs}
 use Rattle.leaves.proofs.rises.Statement.{statement}

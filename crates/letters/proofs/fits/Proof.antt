@@ -33,7 +33,10 @@ loop-less : tie.Need-loop-less Inv-loop μ-loop
 loop-less c = search needs
 
 loop-again : tie.Need-loop-again Inv-loop μ-loop
-loop-again c = left-on (c .before .before .before .before .loop .inv) (c .before .before .before .loop-test .taken) (c .before .width .ensures .0) (c .if1 .left)
+loop-again c =
+    let c1 = c .before .before .before in
+    let c2 = c1 .before in
+    left-on (c2 .loop .inv) (c1 .loop-test .taken) (c .before .width .ensures .0) (c .if1 .left)
 
 returns-2 : tie.Need-returns-2 Inv-loop μ-loop
 returns-2 c = left-ends (c .before .loop .inv) (c .loop-test .left)

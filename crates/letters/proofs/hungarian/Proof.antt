@@ -1,11 +1,30 @@
 -- `letters::hungarian` meets its contract: each arm is a row of the table, and the last one is where no row fits.
 -- Assumes nothing.
-use mathlib.Core.Path.{_≡_}
+use mathlib.Core.Path.{_≡_, refl, sym}
+use mathlib.Core.List.{List, [], _∷_}
 use Prim.Native.Nat.{ℕ}
 use borrow.Author.Tests.{ne-eqb}
-use Rattle.letters.specs.Letters.{hungarian, numberIn}
+use Rattle.letters.specs.Letters.{Letter, hungarian, numberIn}
 use Rattle.letters.proofs.hungarian.Statement.{statement}
 use Rattle.letters.proofs.hungarian.Tie as tie
+
+module _ (b : ℕ) where
+  -- after the facts P, b is the byte of no letter of a table
+  abbrev Unlike : Type 0 → List Letter → Type 0
+  Unlike P [] = P
+  Unlike P (l ∷ ls) = Unlike (P × (b ≡ l .byte → ⊥)) ls
+
+  -- the facts before a table
+  earlier : (P : Type 0) (ls : List Letter) → Unlike P ls → P
+  earlier P [] h = h
+  earlier P (l ∷ ls) h = earlier (P × (b ≡ l .byte → ⊥)) ls h .0
+
+  -- a byte of no letter has the number 0
+  none : (P : Type 0) (ls : List Letter) → Unlike P ls → numberIn ls b ≡ 0
+  none P [] h = refl
+  none P (l ∷ ls) h =
+      let Q = P × (b ≡ l .byte → ⊥) in
+      rw (ne-eqb b (l .byte) (earlier Q ls h .1)) (none Q ls h)
 
 returns : tie.Need-returns
 returns c = rw (c .match .keys1)
@@ -62,7 +81,7 @@ returns-18 : tie.Need-returns-18
 returns-18 c = rw (c .match .keys18)
 
 returns-19 : tie.Need-returns-19
-returns-19 c = simp (ne-eqb (c .before .args .b) 0x81 (c .match .rest .0 .0 .0 .0 .0 .0 .0 .0 .0 .0 .0 .0 .0 .0 .0 .0 .0 .1), ne-eqb (c .before .args .b) 0x82 (c .match .rest .0 .0 .0 .0 .0 .0 .0 .0 .0 .0 .0 .0 .0 .0 .0 .0 .1), ne-eqb (c .before .args .b) 0x8a (c .match .rest .0 .0 .0 .0 .0 .0 .0 .0 .0 .0 .0 .0 .0 .0 .0 .1), ne-eqb (c .before .args .b) 0x8b (c .match .rest .0 .0 .0 .0 .0 .0 .0 .0 .0 .0 .0 .0 .0 .0 .1), ne-eqb (c .before .args .b) 0x90 (c .match .rest .0 .0 .0 .0 .0 .0 .0 .0 .0 .0 .0 .0 .0 .1), ne-eqb (c .before .args .b) 0x94 (c .match .rest .0 .0 .0 .0 .0 .0 .0 .0 .0 .0 .0 .0 .1), ne-eqb (c .before .args .b) 0x99 (c .match .rest .0 .0 .0 .0 .0 .0 .0 .0 .0 .0 .0 .1), ne-eqb (c .before .args .b) 0x9a (c .match .rest .0 .0 .0 .0 .0 .0 .0 .0 .0 .0 .1), ne-eqb (c .before .args .b) 0xa0 (c .match .rest .0 .0 .0 .0 .0 .0 .0 .0 .0 .1), ne-eqb (c .before .args .b) 0xa1 (c .match .rest .0 .0 .0 .0 .0 .0 .0 .0 .1), ne-eqb (c .before .args .b) 0xa2 (c .match .rest .0 .0 .0 .0 .0 .0 .0 .1), ne-eqb (c .before .args .b) 0xa3 (c .match .rest .0 .0 .0 .0 .0 .0 .1), ne-eqb (c .before .args .b) 0xb5 (c .match .rest .0 .0 .0 .0 .0 .1), ne-eqb (c .before .args .b) 0xd6 (c .match .rest .0 .0 .0 .0 .1), ne-eqb (c .before .args .b) 0xe0 (c .match .rest .0 .0 .0 .1), ne-eqb (c .before .args .b) 0xe9 (c .match .rest .0 .0 .1), ne-eqb (c .before .args .b) 0xeb (c .match .rest .0 .1), ne-eqb (c .before .args .b) 0xfb (c .match .rest .1))
+returns-19 c = sym (none (c .before .args .b) Unit hungarian (c .match .rest))
 
 pub hungarian-spec : {M : Type 1} → statement M
 hungarian-spec =

@@ -1,6 +1,6 @@
 -- `letters::is_marked` meets its contract.
 -- Assumes nothing.
-use mathlib.Core.Path.{_≡_, ap}
+use mathlib.Core.Path.{ap}
 use mathlib.Core.Bool.{_||_}
 use Prim.Native.Nat.{ℕ}
 use lib.Dec.{eqb}

@@ -19,10 +19,15 @@ fits-requires : tie.Need-fits-requires Inv-loop μ-loop
 fits-requires c κs = search needs
 
 returns : tie.Need-returns Inv-loop μ-loop
-returns c = too-long (shown (c .before .before .before .before .args .s .now)) (c .before .before .before .before .args .out .now) (c .before .fits2 .ensures) (not-true _ (c .if1 .taken))
+returns c =
+    let c1 = c .before .before .before .before in
+    too-long (shown (c1 .args .s .now)) (c1 .args .out .now) (c .before .fits2 .ensures) (not-true _ (c .if1 .taken))
 
 loop-holds : tie.Need-loop-holds Inv-loop μ-loop
-loop-holds c = put-start (c .before .before .before .before .args .out .now) (c .before .before .before .before .args .s .now) (has-room (shown (c .before .before .before .before .args .s .now)) (c .before .before .before .before .args .out .now) (c .before .fits2 .ensures) (not-false _ (c .if1 .left)))
+loop-holds c =
+    let c1 = c .before .before .before .before in
+    put-start (c1 .args .out .now) (c1 .args .s .now)
+    (has-room (shown (c1 .args .s .now)) (c1 .args .out .now) (c .before .fits2 .ensures) (not-false _ (c .if1 .left)))
 
 shared-slice-read-put-byte : tie.Need-shared-slice-read-put-byte Inv-loop μ-loop
 shared-slice-read-put-byte c = search needs
@@ -37,7 +42,11 @@ loop-less : tie.Need-loop-less Inv-loop μ-loop
 loop-less c = search needs
 
 loop-again : tie.Need-loop-again Inv-loop μ-loop
-loop-again c = put-on (c .before .before .before .before .before .before .loop .inv) (c .before .before .before .before .before .loop-test .taken) (c .before .before .put-byte .ensures)
+loop-again c =
+    let c1 = c .before .before in
+    let c2 = c1 .before .before .before in
+    let c3 = c2 .before in
+    put-on (c3 .loop .inv) (c2 .loop-test .taken) (c1 .put-byte .ensures)
 
 same-length : tie.Need-same-length Inv-loop μ-loop
 same-length c = as-long (c .before .loop .inv)

@@ -27,7 +27,16 @@ same-length : tie.Need-same-length
 same-length c = search needs
 
 returns : tie.Need-returns
-returns c = mark-put (c .before .before .before .before .before .before .before .before .before .before .before .before .before .before .before .before .before .before .before .pre) (c .before .before .before .before .before .before .before .before .before .before .before .before .before .before .before .before .put-one .ensures) (c .before .before .before .before .before .before .before .before .before .before .before .before .put-one2 .ensures) (c .before .before .before .before .before .before .before .before .before .before .before .before .before .before .before .before .before .before .before .args .b) (c .before .before .before .before .before .before .before .before .hex .ensures) (c .before .before .before .hex2 .ensures) (c .before .before .before .before .before .before .before .put-one3 .ensures) (c .before .before .put-one4 .ensures)
+returns c =
+    let c1 = c .before .before in
+    let c2 = c1 .before in
+    let c3 = c2 .before .before .before .before in
+    let c4 = c3 .before in
+    let c5 = c4 .before .before .before .before in
+    let c6 = c5 .before .before .before .before in
+    let c7 = c6 .before .before .before in
+    mark-put (c7 .pre) (c6 .put-one .ensures) (c5 .put-one2 .ensures) (c7 .args .b) (c4 .hex .ensures) (c2 .hex2 .ensures) (c3 .put-one3 .ensures)
+    (c1 .put-one4 .ensures)
 
 pub put-mark-spec : {M : Type 1} → statement M
 put-mark-spec =

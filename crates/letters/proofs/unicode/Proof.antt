@@ -1,8 +1,6 @@
 -- `letters::unicode` meets its contract.
 -- Assumes nothing.
-use mathlib.Core.Path.{_≡_, _∙_}
-use mathlib.Core.Bool.{cond}
-use Rattle.letters.specs.Letters.{unicode, hungarian, numberIn}
+use Rattle.letters.specs.Letters.{unicode}
 use borrow.Author.Needs.{needs}
 use Rattle.letters.proofs.unicode.Statement.{statement}
 use Rattle.letters.proofs.unicode.Tie as tie

@@ -16,10 +16,18 @@ unicode-requires : tie.Need-unicode-requires
 unicode-requires c κs = search needs
 
 returns-2 : tie.Need-returns-2
-returns-2 c = (one-wide (c .before .before .before .before .args .b) (c .before .before .before .is-marked .ensures) (c .before .before .if1 .left) (c .before .unicode .ensures) (c .if2 .taken), search needs)
+returns-2 c =
+    let c1 = c .before .before in
+    let c2 = c1 .before in
+    let c3 = c2 .before in
+    (one-wide (c3 .args .b) (c2 .is-marked .ensures) (c1 .if1 .left) (c .before .unicode .ensures) (c .if2 .taken), search needs)
 
 returns-3 : tie.Need-returns-3
-returns-3 c = (two-wide (c .before .before .before .before .args .b) (c .before .before .before .is-marked .ensures) (c .before .before .if1 .left) (c .before .unicode .ensures) (c .if2 .left), search needs)
+returns-3 c =
+    let c1 = c .before .before in
+    let c2 = c1 .before in
+    let c3 = c2 .before in
+    (two-wide (c3 .args .b) (c2 .is-marked .ensures) (c1 .if1 .left) (c .before .unicode .ensures) (c .if2 .left), search needs)
 
 pub width-spec : {M : Type 1} → statement M
 width-spec = tie.close (tie.spec is-marked-requires returns unicode-requires returns-2 returns-3)

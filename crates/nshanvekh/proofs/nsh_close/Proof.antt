@@ -21,13 +21,20 @@ same-length : tie.Need-same-length
 same-length c = search needs
 
 returns-2 : tie.Need-returns-2
-returns-2 c = close-refused (c .before .before .before .before .before .before .before .if1 .left) (c .before .before .before .before .before .unpack .ensures) (c .before .before .before .before .close .ensures) (c .before .number-of .ensures) (c .if2 .taken)
+returns-2 c =
+    let c1 = c .before .before .before .before in
+    let c2 = c1 .before in
+    let c3 = c2 .before .before in
+    close-refused (c3 .if1 .left) (c2 .unpack .ensures) (c1 .close .ensures) (c .before .number-of .ensures) (c .if2 .taken)
 
 pack-requires : tie.Need-pack-requires
 pack-requires c κs = search needs
 
 tell-requires : tie.Need-tell-requires
-tell-requires c κs = close-sizes (c .before .before .before .before .before .before .before .before .before .before .before .before .before .before .before .before .before .args .session .now) (c .before .before .before .before .before .before .before .before .before .before .before .before .before .before .before .before .before .args .numbers .now) (c .before .before .before .before .before .before .before .before .before .before .before .before .before .before .before .before .before .args .id .now) (c .before .before .before .before .before .before .before .before .before .before .before .before .before .if1 .left)
+tell-requires c κs =
+    let c1 = c .before .before .before .before .before .before .before .before .before .before .before .before .before in
+    let c2 = c1 .before .before .before .before in
+    close-sizes (c2 .args .session .now) (c2 .args .numbers .now) (c2 .args .id .now) (c1 .if1 .left)
 
 same-length-2 : tie.Need-same-length-2
 same-length-2 c = search needs
@@ -39,7 +46,15 @@ same-length-4 : tie.Need-same-length-4
 same-length-4 c = search needs
 
 returns-3 : tie.Need-returns-3
-returns-3 c = close-told (c .before .before .before .before .before .before .before .before .before .before .before .before .before .before .before .before .before .before .if1 .left) (c .before .before .before .before .before .before .before .before .before .before .before .before .before .before .before .before .unpack .ensures) (c .before .before .before .before .before .before .before .before .before .before .before .before .before .before .before .close .ensures) (c .before .before .before .before .before .before .before .before .before .before .before .before .number-of .ensures) (c .before .before .before .before .before .before .before .before .before .before .before .if2 .left) (c .before .before .before .before .before .before .before .before .before .pack .ensures) (c .before .before .before .before .tell .ensures)
+returns-3 c =
+    let c1 = c .before .before .before .before in
+    let c2 = c1 .before .before .before .before .before in
+    let c3 = c2 .before .before in
+    let c4 = c3 .before in
+    let c5 = c4 .before .before .before in
+    let c6 = c5 .before in
+    let c7 = c6 .before .before in
+    close-told (c7 .if1 .left) (c6 .unpack .ensures) (c5 .close .ensures) (c4 .number-of .ensures) (c3 .if2 .left) (c2 .pack .ensures) (c1 .tell .ensures)
 
 pub nsh-close-spec : {M : Type 1} → statement M
 nsh-close-spec =

@@ -21,7 +21,11 @@ same-length : tie.Need-same-length
 same-length c = search needs
 
 returns-2 : tie.Need-returns-2
-returns-2 c = open-right (c .before .before .before .before .before .before .before .if1 .left) (c .before .before .before .before .before .before .«open» .ensures) (c .before .before .before .pack .ensures) (c .number-of .ensures)
+returns-2 c =
+    let c1 = c .before .before .before in
+    let c2 = c1 .before .before .before in
+    let c3 = c2 .before in
+    open-right (c3 .if1 .left) (c2 .«open» .ensures) (c1 .pack .ensures) (c .number-of .ensures)
 
 pub nsh-open-spec : {M : Type 1} → statement M
 nsh-open-spec =

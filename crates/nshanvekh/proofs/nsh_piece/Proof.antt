@@ -21,7 +21,10 @@ same-length-2 : tie.Need-same-length-2
 same-length-2 c = search needs
 
 returns-2 : tie.Need-returns-2
-returns-2 c = piece-right (c .before .before .before .before .before .before .before .before .if1 .left) (c .before .before .before .before .before .take .ensures) (c .number-of .ensures)
+returns-2 c =
+    let c1 = c .before .before .before .before .before in
+    let c2 = c1 .before .before .before in
+    piece-right (c2 .if1 .left) (c1 .take .ensures) (c .number-of .ensures)
 
 pub nsh-piece-spec : {M : Type 1} → statement M
 nsh-piece-spec =

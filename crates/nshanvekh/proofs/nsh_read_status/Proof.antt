@@ -15,7 +15,10 @@ number-of-requires : tie.Need-number-of-requires
 number-of-requires c κs = search needs
 
 tell-status-requires : tie.Need-tell-status-requires
-tell-status-requires c κs = sizes (c .before .before .before .before .before .before .before .before .before .before .before .before .before .args .numbers .now) 10 (c .before .before .before .before .before .before .before .before .before .before .before .before .before .args .id .now) (c .before .before .before .before .before .before .before .before .if1 .left)
+tell-status-requires c κs =
+    let c1 = c .before .before .before .before .before .before .before .before in
+    let c2 = c1 .before .before .before .before .before in
+    sizes (c2 .args .numbers .now) 10 (c2 .args .id .now) (c1 .if1 .left)
 
 same-length : tie.Need-same-length
 same-length c = search needs
@@ -27,7 +30,12 @@ same-length-3 : tie.Need-same-length-3
 same-length-3 c = search needs
 
 returns-2 : tie.Need-returns-2
-returns-2 c = status-told (c .before .before .before .before .before .before .before .before .before .before .before .before .before .if1 .left) (c .before .before .before .before .before .before .before .before .before .before .before .read-status .ensures) (c .before .before .before .before .before .before .before .number-of .ensures) (c .before .before .before .before .tell-status .ensures)
+returns-2 c =
+    let c1 = c .before .before .before .before in
+    let c2 = c1 .before .before .before in
+    let c3 = c2 .before .before .before .before in
+    let c4 = c3 .before .before in
+    status-told (c4 .if1 .left) (c3 .read-status .ensures) (c2 .number-of .ensures) (c1 .tell-status .ensures)
 
 pub nsh-read-status-spec : {M : Type 1} → statement M
 nsh-read-status-spec =

@@ -1,9 +1,14 @@
 -- `nshanvekh::nsh_reply` meets its contract: a wrong size, else what writing tells.
 -- Assumes nothing.
 use Rattle.nshanvekh.proofs.Messages.{reply-wrong, reply-told}
+use Rattle.lent.specs.Lent.{Lent, lent}
 use borrow.Author.Needs.{needs}
 use Rattle.nshanvekh.proofs.nsh_reply.Statement.{statement}
 use Rattle.nshanvekh.proofs.nsh_reply.Tie as tie
+
+-- what is lent
+abbrev given : tie.Start → Lent
+given c = lent (c .args .day) (c .args .banks .now) (c .args .known .now)
 
 returns : tie.Need-returns
 returns c = reply-wrong (c .if1 .taken)
@@ -21,7 +26,12 @@ same-length-2 : tie.Need-same-length-2
 same-length-2 c = search needs
 
 returns-2 : tie.Need-returns-2
-returns-2 c = reply-told (c .before .before .before .before .before .before .before .before .if1 .left) (c .before .before .before .before .before .before .write .ensures) (c .before .before .tell-reply .ensures)
+returns-2 c =
+    let c1 = c .before .before in
+    let c2 = c1 .before .before .before .before in
+    let c3 = c2 .before .before in
+    let c4 = c3 .before .before .before .before .before .before in
+    reply-told {l = given c4} (c3 .if1 .left) (c2 .write .ensures) (c1 .tell-reply .ensures)
 
 pub nsh-reply-spec : {M : Type 1} → statement M
 nsh-reply-spec =

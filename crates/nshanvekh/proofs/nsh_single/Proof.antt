@@ -6,14 +6,14 @@ use borrow.Author.Needs.{needs}
 use Rattle.nshanvekh.proofs.nsh_single.Statement.{statement}
 use Rattle.nshanvekh.proofs.nsh_single.Tie as tie
 
-judge-requires : tie.Need-judge-requires
-judge-requires c κs = search needs
+answer-requires : tie.Need-answer-requires
+answer-requires c κs = search needs
 
 number-requires : tie.Need-number-requires
 number-requires c κs = search needs
 
 returns : tie.Need-returns
-returns c = c .number .ensures ∙ ap singleNumber (c .before .judge .ensures)
+returns c = c .number .ensures ∙ ap singleNumber (c .before .answer .ensures)
 
 pub nsh-single-spec : {M : Type 1} → statement M
-nsh-single-spec = tie.close (tie.spec judge-requires number-requires returns)
+nsh-single-spec = tie.close (tie.spec answer-requires number-requires returns)

@@ -1,11 +1,16 @@
 -- `nshanvekh::tell` meets its contract: nothing beside a refusal, else each number at its place and the identifier.
 -- Assumes nothing.
 use Rattle.nshanvekh.proofs.Tells.{told-none, told}
-use lib.ListN.{length-set}
+use lib.ListN.{length, length-set}
 use native.Mathlib.Omega.{arith}
+use mathlib.Core.Path.{_≡_}
 use borrow.Author.Needs.{needs}
 use Rattle.nshanvekh.proofs.tell.Statement.{statement}
 use Rattle.nshanvekh.proofs.tell.Tie as tie
+
+-- the identifier of a closing has 25 bytes
+id-at : (c : tie.Start) → length (c .args .k .id) ≡ 25
+id-at c = search needs
 
 returns : tie.Need-returns
 returns c = told-none (c .if1 .taken)
@@ -44,7 +49,10 @@ same-length-2 : tie.Need-same-length-2
 same-length-2 c = search needs
 
 returns-2 : tie.Need-returns-2
-returns-2 c = told (c .before .before .before .before .before .before .before .before .before .if1 .left) (c .before .before .before .before .before .before .before .before .before .before .before .before .pre .0) (c .before .before .before .before .before .before .before .before .before .before .before .before .pre .1) (search needs) (c .before .before .put .ensures .1)
+returns-2 c =
+    let c1 = c .before .before .before .before .before .before .before .before .before in
+    let c2 = c1 .before .before .before in
+    told (c1 .if1 .left) (c2 .pre .0) (c2 .pre .1) (id-at c2) (c .before .before .put .ensures .1)
 
 pub tell-spec : {M : Type 1} → statement M
 tell-spec =

@@ -73,7 +73,11 @@ same-length-2 : tie.Need-same-length-2
 same-length-2 c = search needs
 
 returns-2 : tie.Need-returns-2
-returns-2 c = status-all (c .before .before .before .before .before .before .before .before .before .before .before .before .before .if1 .left) (c .before .before .before .before .before .before .before .before .before .before .before .before .before .before .before .before .pre .0) (c .before .before .before .before .before .before .before .before .before .before .before .before .before .before .before .before .pre .1) (id-at (c .before .before .before .before .before .before .before .before .before .before .before .before .before .before .before .before)) (c .before .before .put .ensures .1)
+returns-2 c =
+    let c1 = c .before .before in
+    let c2 = c1 .before .before .before .before .before .before .before .before .before .before .before in
+    let c3 = c2 .before .before .before in
+    status-all (c2 .if1 .left) (c3 .pre .0) (c3 .pre .1) (id-at c3) (c1 .put .ensures .1)
 
 pub tell-status-spec : {M : Type 1} → statement M
 tell-status-spec =

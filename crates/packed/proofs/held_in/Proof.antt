@@ -3,18 +3,19 @@
 use Rattle.packed.proofs.Copy.{Copied, copy-start, copy-on, copy-ends}
 use Prim.Native.Nat.{_-_}
 use native.Mathlib.Omega.{arith}
+use Rattle.judge.specs.Session.{longest}
 use borrow.Author.Needs.{needs}
 use Rattle.packed.proofs.held_in.Statement.{statement}
 use Rattle.packed.proofs.held_in.Tie as tie
 
 abbrev Inv-loop : tie.InvT-loop
-Inv-loop x held₀ i₀ held i = Copied x 93 251 held i
+Inv-loop x held₀ i₀ held i = Copied x 93 longest held i
 
 abbrev μ-loop : tie.MeasureT-loop
-μ-loop x held₀ i₀ held i = 251 - i
+μ-loop x held₀ i₀ held i = longest - i
 
 loop-holds : tie.Need-loop-holds Inv-loop μ-loop
-loop-holds c = copy-start (c .args .x .now) 93 251 (omega arith)
+loop-holds c = copy-start (c .args .x .now) 93 longest (omega arith)
 
 add-held : tie.Need-add-held Inv-loop μ-loop
 add-held c = search needs

@@ -6,7 +6,7 @@ use Rattle.packed.proofs.is_packed.Statement.{statement}
 use Rattle.packed.proofs.is_packed.Tie as tie
 
 returns : tie.Need-returns
-returns c = not-packed (c .before .before .args .x .now) (c .if1 .taken)
+returns c = not-packed (c .before .args .x .now) (c .if1 .taken)
 
 shared-slice-read-result : tie.Need-shared-slice-read-result
 shared-slice-read-result c = search needs
@@ -14,11 +14,8 @@ shared-slice-read-result c = search needs
 shared-slice-read-result-2 : tie.Need-shared-slice-read-result-2
 shared-slice-read-result-2 c = search needs
 
-number-at-requires : tie.Need-number-at-requires
-number-at-requires c κs = search needs
-
 returns-2 : tie.Need-returns-2
-returns-2 c = tested (c .before .before .before .before .before .args .x .now) (c .before .before .before .if1 .left) (c .number-at .ensures)
+returns-2 c = tested (c .before .before .before .args .x .now) (c .before .before .if1 .left)
 
 pub is-packed-spec : {M : Type 1} → statement M
 is-packed-spec =
@@ -27,5 +24,4 @@ is-packed-spec =
     returns
     shared-slice-read-result
     shared-slice-read-result-2
-    number-at-requires
     returns-2)

@@ -9,16 +9,16 @@ use Rattle.packed.proofs.number_at.Statement.{statement}
 use Rattle.packed.proofs.number_at.Tie as tie
 
 abbrev Inv-loop : tie.InvT-loop
-Inv-loop x at n₀ i₀ n i = Read x at n i
+Inv-loop x at w n₀ i₀ n i = Read x at w n i
 
 abbrev μ-loop : tie.MeasureT-loop
-μ-loop x at n₀ i₀ n i = i
+μ-loop x at w n₀ i₀ n i = i
 
 add-i : tie.Need-add-i Inv-loop μ-loop
 add-i c = search needs
 
 loop-holds : tie.Need-loop-holds Inv-loop μ-loop
-loop-holds c = read-start (c .args .x .now) (c .args .at) (c .pre)
+loop-holds c = read-start (c .args .x .now) (c .args .at) (c .args .w) (c .pre .0) (c .pre .1)
 
 sub-i : tie.Need-sub-i Inv-loop μ-loop
 sub-i c = search needs
@@ -39,7 +39,12 @@ loop-less : tie.Need-loop-less Inv-loop μ-loop
 loop-less c = search needs
 
 loop-again : tie.Need-loop-again Inv-loop μ-loop
-loop-again c = let b : getD (c .before .before .before .args .x .now) (c .before .before .loop .i - 1) 0 < 256 = omega (arith, c .shared-slice-known .given (c .before .before .loop .i - 1)) in read-on (c .before .before .loop .inv) (c .before .loop-test .taken) b
+loop-again c =
+    let at-loop-test = c .before in
+    let at-loop = at-loop-test .before in
+    let a = at-loop .before .args in
+    let b : getD (a .x .now) (at-loop .loop .i - 1) 0 < 256 = omega (arith, c .shared-slice-known .given (at-loop .loop .i - 1)) in read-on
+    (at-loop .loop .inv) (at-loop-test .loop-test .taken) b
 
 returns : tie.Need-returns Inv-loop μ-loop
 returns c = read-ends (c .before .loop .inv) (c .loop-test .left)

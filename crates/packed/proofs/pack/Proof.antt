@@ -9,7 +9,17 @@ use Rattle.packed.proofs.pack.Tie as tie
 
 -- the session's numbers fit the types of their fields
 tally-at : (c : tie.Start) → TallyFits (c .args .s .tally) (c .args .s .fill)
-tally-at c = record { acceptedCount = search needs; acceptedSum = search needs; refusedCount = search needs; refusedSum = search needs; zeros = search needs; fill = search needs; id = search needs }
+tally-at c =
+    record {
+      told = search needs;
+      acceptedCount = search needs;
+      acceptedSum = search needs;
+      refusedCount = search needs;
+      refusedSum = search needs;
+      zeros = search needs;
+      fill = search needs;
+      id = search needs;
+    }
 
 fits-at : (c : tie.Start) → Fits (c .args .s)
 fits-at c = record { day = search needs; room = search needs; tally = tally-at c; held = search needs }
@@ -17,48 +27,61 @@ fits-at c = record { day = search needs; room = search needs; tally = tally-at c
 returns : tie.Need-returns
 returns c = wrong-size (fits-at (c .before .before)) (c .if1 .taken)
 
-slice-aggregate-put-bytes : tie.Need-slice-aggregate-put-bytes
-slice-aggregate-put-bytes c = search needs
+slice-aggregate-put-at : tie.Need-slice-aggregate-put-at
+slice-aggregate-put-at c = search needs
 
-put-bytes-requires : tie.Need-put-bytes-requires
-put-bytes-requires c κs = search needs
+put-at-requires : tie.Need-put-at-requires
+put-at-requires c κs = search needs
 
-cast-t16 : tie.Need-cast-t16
-cast-t16 c = search needs
+cast-put-little : tie.Need-cast-put-little
+cast-put-little c = search needs
 
-slice-aggregate-put-numbers : tie.Need-slice-aggregate-put-numbers
-slice-aggregate-put-numbers c = search needs
+put-little-requires : tie.Need-put-little-requires
+put-little-requires c κs = search needs
 
-put-numbers-requires : tie.Need-put-numbers-requires
-put-numbers-requires c κs = search needs
+put-little-requires-2 : tie.Need-put-little-requires-2
+put-little-requires-2 c κs = search needs
 
 put-tally-requires : tie.Need-put-tally-requires
 put-tally-requires c κs = search needs
 
-slice-aggregate-put-bytes-2 : tie.Need-slice-aggregate-put-bytes-2
-slice-aggregate-put-bytes-2 c = search (needs, fits-at (c .before .before .before .before .before .before .before .before .before .before .before .before .before .before .before .before .before .before .before .before .before) .held)
+slice-aggregate-put-at-2 : tie.Need-slice-aggregate-put-at-2
+slice-aggregate-put-at-2 c =
+    let dated = c .before .before .before .before .before .before .before .before .before .before .before .before in
+    let test = dated .before .before .before .before .before .before .before .before .before .before in
+    search (needs, fits-at (test .before .before) .held)
 
-put-bytes-requires-2 : tie.Need-put-bytes-requires-2
-put-bytes-requires-2 c κs = omega (arith, fits-at (c .before .before .before .before .before .before .before .before .before .before .before .before .before .before .before .before .before .before .before .before .before) .held)
+put-at-requires-2 : tie.Need-put-at-requires-2
+put-at-requires-2 c κs = search needs
 
 same-length : tie.Need-same-length
 same-length c = search needs
 
 returns-2 : tie.Need-returns-2
-returns-2 c = right-size (fits-at (c .before .before .before .before .before .before .before .before .before .before .before .before .before .before .before .before .before .before .before .before .before .before .before .before)) (c .before .before .before .before .before .before .before .before .before .before .before .before .before .before .before .before .before .before .before .before .before .before .if1 .left) (c .before .before .before .before .before .before .before .before .before .before .before .before .before .before .before .before .before .put-bytes .ensures) (c .before .before .before .before .before .before .before .before .before .before .before .put-numbers .ensures) (c .before .before .before .before .before .before .before .put-tally .ensures .bytes) (c .before .before .put-bytes2 .ensures)
+returns-2 c =
+    let held = c .before .before in
+    let tallied = held .before .before .before .before .before in
+    let roomed = tallied .before .before .before .before in
+    let dated = roomed .before .before .before .before in
+    let marked = dated .before .before .before .before .before in
+    let test = marked .before .before .before .before .before in
+    let start = test .before .before in
+    right-size (fits-at start) (test .if1 .left) (marked .put-at .ensures) (dated .put-little .ensures) (roomed .put-little2 .ensures)
+    (tallied .put-tally .ensures .bytes) (held .put-at2 .ensures)
+    (omega (arith, test .if1 .left, marked .put-at .kept .0, dated .put-little .kept .0, roomed .put-little2 .kept .0, tallied .put-tally .kept .1 .1 .0))
 
 pub pack-spec : {M : Type 1} → statement M
 pack-spec =
     tie.close
     (tie.spec
     returns
-    slice-aggregate-put-bytes
-    put-bytes-requires
-    cast-t16
-    slice-aggregate-put-numbers
-    put-numbers-requires
+    slice-aggregate-put-at
+    put-at-requires
+    cast-put-little
+    put-little-requires
+    put-little-requires-2
     put-tally-requires
-    slice-aggregate-put-bytes-2
-    put-bytes-requires-2
+    slice-aggregate-put-at-2
+    put-at-requires-2
     same-length
     returns-2)

@@ -1,6 +1,8 @@
 -- `packed::session_in` meets its contract: each field is read at its place.
 -- Assumes nothing.
+use Rattle.packed.proofs.Little.{four-fits}
 use Rattle.packed.proofs.Fields.{tally-fields, fields}
+use native.Mathlib.Omega.{arith}
 use borrow.Author.Needs.{needs}
 use Rattle.packed.proofs.session_in.Statement.{statement}
 use Rattle.packed.proofs.session_in.Tie as tie
@@ -20,37 +22,51 @@ held-in-requires c κs = search needs
 shared-slice-read-t8 : tie.Need-shared-slice-read-t8
 shared-slice-read-t8 c = search needs
 
-shared-slice-read-t10 : tie.Need-shared-slice-read-t10
-shared-slice-read-t10 c = search needs
-
-shared-slice-read-t13 : tie.Need-shared-slice-read-t13
-shared-slice-read-t13 c = search needs
-
 number-at-requires : tie.Need-number-at-requires
 number-at-requires c κs = search needs
+
+cast-t10 : tie.Need-cast-t10
+cast-t10 c =
+    let read = c .before in
+    let start = read .before .before .before .before .before .before in
+    search (needs, four-fits (start .args .x .now) 8 (λ i. read .shared-slice-known2 .given i .fits) (omega (arith, start .pre)) (c .number-at .ensures))
+
+shared-slice-read-t12 : tie.Need-shared-slice-read-t12
+shared-slice-read-t12 c = search needs
+
+shared-slice-read-t15 : tie.Need-shared-slice-read-t15
+shared-slice-read-t15 c = search needs
 
 number-at-requires-2 : tie.Need-number-at-requires-2
 number-at-requires-2 c κs = search needs
 
-cast-t15 : tie.Need-cast-t15
-cast-t15 c = search needs
-
 number-at-requires-3 : tie.Need-number-at-requires-3
 number-at-requires-3 c κs = search needs
+
+cast-t10-2 : tie.Need-cast-t10-2
+cast-t10-2 c =
+    let read = c .before .before in
+    let start = read .before .before .before .before .before .before .before .before .before in
+    search (needs, four-fits (start .args .x .now) 4 (λ i. read .shared-slice-known4 .given i .fits) (omega (arith, start .pre)) (c .number-at3 .ensures))
 
 number-at-requires-4 : tie.Need-number-at-requires-4
 number-at-requires-4 c κs = search needs
 
+number-at-requires-5 : tie.Need-number-at-requires-5
+number-at-requires-5 c κs = search needs
+
 returns : tie.Need-returns
 returns c =
-    let x = c .before .before .before .before .before .before .before .before .before .before .before .before .args .x .now in
-    let d = c .before .before .before .before .before .before .before in
-    fields x
-    (tally-fields x (d .before .before .before .totals-at .ensures) (d .before .before .totals-at2 .ensures) (d .before .id-in .ensures) (c .before .before .before .number-at .ensures))
-    (d .held-in .ensures)
-    (c .before .before .number-at2 .ensures)
-    (c .before .number-at3 .ensures)
-    (c .number-at4 .ensures)
+    let told = c .before .before .before .before .before .before in
+    let held = told .before .before in
+    let named = held .before in
+    let refused = named .before in
+    let accepted = refused .before in
+    let x = accepted .before .before .args .x .now in
+    let t =
+    tally-fields x (accepted .totals-at .ensures) (refused .totals-at2 .ensures) (named .id-in .ensures) (told .number-at .ensures)
+    (c .before .before .before .number-at2 .ensures) in
+    fields x t (held .held-in .ensures) (c .before .before .number-at3 .ensures) (c .before .number-at4 .ensures) (c .number-at5 .ensures)
 
 pub session-in-spec : {M : Type 1} → statement M
 session-in-spec =
@@ -61,11 +77,13 @@ session-in-spec =
     id-in-requires
     held-in-requires
     shared-slice-read-t8
-    shared-slice-read-t10
-    shared-slice-read-t13
     number-at-requires
+    cast-t10
+    shared-slice-read-t12
+    shared-slice-read-t15
     number-at-requires-2
-    cast-t15
     number-at-requires-3
+    cast-t10-2
     number-at-requires-4
+    number-at-requires-5
     returns)

@@ -1,6 +1,8 @@
 -- `packed::step_in` meets its contract: the parts are read, and the part that was lent came back.
 -- Assumes nothing.
+use Rattle.packed.proofs.Little.{four-fits}
 use Rattle.packed.proofs.Taking.{back}
+use native.Mathlib.Omega.{arith}
 use borrow.Author.Needs.{needs}
 use Rattle.packed.proofs.step_in.Statement.{statement}
 use Rattle.packed.proofs.step_in.Tie as tie
@@ -9,7 +11,10 @@ number-at-requires : tie.Need-number-at-requires
 number-at-requires c κs = search needs
 
 cast-day : tie.Need-cast-day
-cast-day c = search needs
+cast-day c =
+    let read = c .before .before .before .before .before .before in
+    let start = read .before in
+    search (needs, four-fits (start .args .session .now) 4 (λ i. read .slice-known .given i .fits) (omega (arith, start .pre)) (c .number-at .ensures))
 
 number-at-requires-2 : tie.Need-number-at-requires-2
 number-at-requires-2 c κs = search needs
@@ -39,7 +44,15 @@ same-length-2 : tie.Need-same-length-2
 same-length-2 c = search needs
 
 returns : tie.Need-returns
-returns c = back (c .before .before .before .before .before .before .before .before .before .before .before .before .before .before .before .before .before .before .before .before .pre .0) (search needs) (c .before .before .before .before .before .before .before .before .before .before .before .before .before .number-at .ensures) (c .before .before .before .before .before .before .before .before .before .before .before .number-at2 .ensures) (c .before .before .before .before .before .before .before .before .before .tally-in .ensures) (c .before .before .before .before .before .before .before .number-at3 .ensures) (c .before .before .before .before .take-lent .ensures)
+returns c =
+    let at-take-lent = c .before .before .before .before in
+    let at-number-at3 = at-take-lent .before .before .before in
+    let at-tally-in = at-number-at3 .before .before in
+    let at-number-at2 = at-tally-in .before .before in
+    let at-number-at = at-number-at2 .before .before in
+    let start = at-number-at .before .before .before .before .before .before .before in
+    back (start .pre) (same-length c) (at-number-at .number-at .ensures) (at-number-at2 .number-at2 .ensures) (at-tally-in .tally-in .ensures)
+    (at-number-at3 .number-at3 .ensures) (at-take-lent .take-lent .ensures)
 
 pub step-in-spec : {M : Type 1} → statement M
 step-in-spec =

@@ -48,13 +48,20 @@ put-item-requires : tie.Need-put-item-requires Inv-loop μ-loop
 put-item-requires c κs = search needs
 
 add-at : tie.Need-add-at Inv-loop μ-loop
-add-at c = omega (arith, short (c .before .before .before .before .before .before .loop .out) (c .before .before .before .before .before .before .loop .at) (c .before .before .before .before .before .before .loop .inv .0) (c .before .before .put-item .ensures))
+add-at c =
+    let c1 = c .before .before in
+    let c2 = c1 .before .before .before .before in
+    omega (arith, short (c2 .loop .out) (c2 .loop .at) (c2 .loop .inv .0) (c1 .put-item .ensures))
 
 loop-less : tie.Need-loop-less Inv-loop μ-loop
 loop-less c = search needs
 
 loop-again : tie.Need-loop-again Inv-loop μ-loop
-loop-again c = let l = long (c .before .before .before .before .before .before .loop .out) (c .before .before .before .before .before .before .loop .at) (c .before .before .before .before .before .before .loop .inv .0) (c .before .before .put-item .ensures) in (omega (arith, short (c .before .before .before .before .before .before .loop .out) (c .before .before .before .before .before .before .loop .at) (c .before .before .before .before .before .before .loop .inv .0) (c .before .before .put-item .ensures)), l ∙ c .before .before .before .before .before .before .loop .inv .1)
+loop-again c =
+    let c1 = c .before .before in
+    let c2 = c1 .before .before .before .before in
+    let l = long (c2 .loop .out) (c2 .loop .at) (c2 .loop .inv .0) (c1 .put-item .ensures) in
+    (omega (arith, short (c2 .loop .out) (c2 .loop .at) (c2 .loop .inv .0) (c1 .put-item .ensures)), l ∙ c2 .loop .inv .1)
 
 same-length : tie.Need-same-length Inv-loop μ-loop
 same-length c = search needs

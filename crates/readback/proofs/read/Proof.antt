@@ -9,8 +9,9 @@ use lib.Dec.{leb}
 use lib.ListN.{length, length-replicate}
 use lib.Seq.{length-take-le}
 use borrow.Author.Tests.{leb-true}
-use Rattle.findings.specs.declared.refusal.Refusal.the-variants.{Room, Malformed}
-use Rattle.judge.specs.declared.Outcome.the-variants.{Done, Refused}
+use Rattle.judge.specs.Session.{most}
+use Rattle.lent.specs.declared.Refusal.the-variants.{Room, Malformed}
+use Rattle.lent.specs.declared.Outcome.the-variants.{Done, Refused}
 use Rattle.reading.specs.declared.Read.{Read}
 use Rattle.reading.specs.Reading.{countOf, statusIn, isStatus, refusedAs, readOf, ReadAs}
 use borrow.Author.Needs.{needs}
@@ -54,10 +55,16 @@ enum-told : tie.Need-enum-told
 enum-told c = search needs
 
 array-share-prefix-codes : tie.Need-array-share-prefix-codes
-array-share-prefix-codes c = let h = within (c .before .before .before .before .read-status .ensures) (c .enum-told .given .1) in omega (arith, length-replicate {A = ℕ} 10000 0)
+array-share-prefix-codes c =
+    let c1 = c .before .before .before .before in
+    let h = within (c1 .read-status .ensures) (c .enum-told .given .1) in
+    omega (arith, length-replicate {A = ℕ} most 0)
 
 slice-aggregate-print : tie.Need-slice-aggregate-print
-slice-aggregate-print c = let h = within (c .before .before .before .before .before .read-status .ensures) (c .before .enum-told .given .1) in sym (length-take-le _ _ (omega (arith, length-replicate {A = ℕ} 10000 0)))
+slice-aggregate-print c =
+    let c1 = c .before .before .before .before .before in
+    let h = within (c1 .read-status .ensures) (c .before .enum-told .given .1) in
+    sym (length-take-le _ _ (omega (arith, length-replicate {A = ℕ} most 0)))
 
 print-requires : tie.Need-print-requires
 print-requires c κs = search needs

@@ -6,7 +6,7 @@ use Prim.Native.Nat.{ℕ, _-_}
 use lib.Dec.{ltb, eqb}
 use borrow.Author.Tests.{eq-eqb, ne-eqb}
 use Rattle.reading.specs.Checking.{countsAre}
-use Rattle.status.specs.declared.Status.{Status}
+use Rattle.frame.specs.declared.Status.{Status}
 use borrow.Author.Needs.{needs}
 use Rattle.reading.proofs.are_counts.Statement.{statement}
 use Rattle.reading.proofs.are_counts.Tie as tie
@@ -31,19 +31,33 @@ module _ (s : Status) (z o : ℕ) where
       with-another f = rw (eq-eqb (s .accepted .count) z a, eq-eqb (s .refused .count) o r, ne-eqb (s .code) 0 f)
 
 returns : tie.Need-returns
-returns c = not-accepted (c .before .before .before .before .args .s) (c .before .before .before .before .args .zeros) (c .before .before .before .before .args .s .references - c .before .before .before .before .args .zeros) (c .if1 .taken)
+returns c =
+    let c1 = c .before .before .before .before in
+    not-accepted (c1 .args .s) (c1 .args .zeros) (c1 .args .s .references - c1 .args .zeros) (c .if1 .taken)
 
 sub-if2 : tie.Need-sub-if2
 sub-if2 c = search needs
 
 returns-2 : tie.Need-returns-2
-returns-2 c = not-refused (c .before .before .before .before .before .before .args .s) (c .before .before .before .before .before .before .args .zeros) (c .before .before .before .before .before .before .args .s .references - c .before .before .before .before .before .before .args .zeros) (c .before .before .if1 .left) (c .if2 .taken)
+returns-2 c =
+    let c1 = c .before .before in
+    let c2 = c1 .before .before .before .before in
+    not-refused (c2 .args .s) (c2 .args .zeros) (c2 .args .s .references - c2 .args .zeros) (c1 .if1 .left) (c .if2 .taken)
 
 returns-3 : tie.Need-returns-3
-returns-3 c = with-code-00 (c .before .before .before .before .before .before .before .before .args .s) (c .before .before .before .before .before .before .before .before .args .zeros) (c .before .before .before .before .before .before .before .before .args .s .references - c .before .before .before .before .before .before .before .before .args .zeros) (c .before .before .before .before .if1 .left) (c .before .before .if2 .left) (c .if3 .taken)
+returns-3 c =
+    let c1 = c .before .before in
+    let c2 = c1 .before .before in
+    let c3 = c2 .before .before .before .before in
+    with-code-00 (c3 .args .s) (c3 .args .zeros) (c3 .args .s .references - c3 .args .zeros) (c2 .if1 .left) (c1 .if2 .left) (c .if3 .taken)
 
 returns-4 : tie.Need-returns-4
-returns-4 c = with-another (c .before .before .before .before .before .before .before .before .before .before .args .s) (c .before .before .before .before .before .before .before .before .before .before .args .zeros) (c .before .before .before .before .before .before .before .before .before .before .args .s .references - c .before .before .before .before .before .before .before .before .before .before .args .zeros) (c .before .before .before .before .before .before .if1 .left) (c .before .before .before .before .if2 .left) (c .before .before .if3 .left)
+returns-4 c =
+    let c1 = c .before .before in
+    let c2 = c1 .before .before in
+    let c3 = c2 .before .before in
+    let c4 = c3 .before .before .before .before in
+    with-another (c4 .args .s) (c4 .args .zeros) (c4 .args .s .references - c4 .args .zeros) (c3 .if1 .left) (c2 .if2 .left) (c1 .if3 .left)
 
 pub are-counts-spec : {M : Type 1} → statement M
 are-counts-spec = tie.close (tie.spec returns sub-if2 returns-2 returns-3 returns-4)

@@ -9,9 +9,22 @@ use lib.ListN.{length, take, drop}
 use borrow.Author.Tests.{not-true, not-false}
 use Rattle.reading.proofs.References.{foot-lent, codes-length, zeros-others, zeros-few}
 use Rattle.reading.specs.Checking.{partsRight, referredOf, countsAre}
-use Rattle.reading.specs.Reading.{countOf, headIn, referencesIn, footIn, headRight, referencesRight, footRight, codesIn, zerosIn, othersIn, statusIn, countsRight}
+use Rattle.reading.specs.Reading.{
+  countOf,
+  headIn,
+  referencesIn,
+  footIn,
+  headRight,
+  referencesRight,
+  footRight,
+  codesIn,
+  zerosIn,
+  othersIn,
+  statusIn,
+  countsRight,
+}
 use Rattle.reading.specs.declared.Referred.{Referred}
-use Rattle.status.specs.declared.Status.{Status}
+use Rattle.frame.specs.declared.Status.{Status}
 use borrow.Author.Needs.{needs}
 use Rattle.reading.proofs.are_parts.Statement.{statement}
 use Rattle.reading.proofs.are_parts.Tie as tie
@@ -79,7 +92,13 @@ references-in-requires : tie.Need-references-in-requires
 references-in-requires c κs = search needs
 
 returns-2 : tie.Need-returns-2
-returns-2 c = no-references (c .before .before .before .before .before .before .before .args .x .now) (sym (c .before .before .before .before .is-head .ensures) ∙ not-false _ (c .before .before .before .if1 .left)) (rights (c .before .before .before .before .before .before .before .args .x .now) (c .before .before .references-in .ensures) (not-true _ (c .if2 .taken)))
+returns-2 c =
+    let c1 = c .before .before in
+    let c2 = c1 .before in
+    let c3 = c2 .before in
+    let c4 = c3 .before .before .before in
+    no-references (c4 .args .x .now) (sym (c3 .is-head .ensures) ∙ not-false _ (c2 .if1 .left))
+    (rights (c4 .args .x .now) (c1 .references-in .ensures) (not-true _ (c .if2 .taken)))
 
 count-of-requires : tie.Need-count-of-requires
 count-of-requires c κs = search needs
@@ -104,16 +123,35 @@ is-foot-requires c κs = search needs
 
 returns-3 : tie.Need-returns-3
 returns-3 c =
-    let x = c .before .before .before .before .before .before .before .before .before .before .before .args .x .now in
-    no-foot x (sym (c .before .before .before .before .before .before .before .before .is-head .ensures) ∙ not-false _ (c .before .before .before .before .before .before .before .if1 .left)) (rights x (c .before .before .before .before .before .before .references-in .ensures) (not-false _ (c .before .before .before .before .if2 .left))) (foot-is x (c .before .before .before .count-of .ensures) (c .before .is-foot .ensures) (not-true _ (c .if3 .taken)))
+    let c1 = c .before .before .before in
+    let c2 = c1 .before in
+    let c3 = c2 .before .before in
+    let c4 = c3 .before in
+    let c5 = c4 .before in
+    let c6 = c5 .before .before .before in
+    let x = c6 .args .x .now in
+    no-foot x (sym (c5 .is-head .ensures) ∙ not-false _ (c4 .if1 .left)) (rights x (c3 .references-in .ensures) (not-false _ (c2 .if2 .left)))
+    (foot-is x (c1 .count-of .ensures) (c .before .is-foot .ensures) (not-true _ (c .if3 .taken)))
 
 are-counts-requires : tie.Need-are-counts-requires
-are-counts-requires c κs = few (c .before .before .before .before .before .before .before .before .before .before .before .args .x .now) (c .before .before .before .before .before .before .before .before .before .before .before .pre .1) (c .before .before .before .before .before .before .references-in .ensures)
+are-counts-requires c κs =
+    let c1 = c .before .before .before .before .before .before in
+    let c2 = c1 .before .before .before .before .before in
+    few (c2 .args .x .now) (c2 .pre .1) (c1 .references-in .ensures)
 
 returns-4 : tie.Need-returns-4
 returns-4 c =
-    let x = c .before .before .before .before .before .before .before .before .before .before .before .before .args .x .now in
-    counts x (sym (c .before .before .before .before .before .before .before .before .before .is-head .ensures) ∙ not-false _ (c .before .before .before .before .before .before .before .before .if1 .left)) (rights x (c .before .before .before .before .before .before .before .references-in .ensures) (not-false _ (c .before .before .before .before .before .if2 .left))) (foot-is x (c .before .before .before .before .count-of .ensures) (c .before .before .is-foot .ensures) (not-false _ (c .before .if3 .left))) (counted x (c .before .before .before .before .before .before .before .before .before .before .before .before .pre .1) (c .before .before .before .before .before .before .before .references-in .ensures) (c .are-counts .ensures))
+    let c1 = c .before .before in
+    let c2 = c1 .before .before in
+    let c3 = c2 .before in
+    let c4 = c3 .before .before in
+    let c5 = c4 .before in
+    let c6 = c5 .before in
+    let c7 = c6 .before .before .before in
+    let x = c7 .args .x .now in
+    counts x (sym (c6 .is-head .ensures) ∙ not-false _ (c5 .if1 .left)) (rights x (c4 .references-in .ensures) (not-false _ (c3 .if2 .left)))
+    (foot-is x (c2 .count-of .ensures) (c1 .is-foot .ensures) (not-false _ (c .before .if3 .left)))
+    (counted x (c7 .pre .1) (c4 .references-in .ensures) (c .are-counts .ensures))
 
 pub are-parts-spec : {M : Type 1} → statement M
 are-parts-spec =

@@ -47,7 +47,10 @@ has-ending-requires : tie.Need-has-ending-requires
 has-ending-requires c κs = search needs
 
 returns : tie.Need-returns
-returns c = all (c .before .before .before .before .before .before .before .args .f .now) (c .before .before .before .is-mark .ensures) (c .before .is-digits .ensures) (c .has-ending .ensures)
+returns c =
+    let c1 = c .before .before .before in
+    let c2 = c1 .before .before .before .before in
+    all (c2 .args .f .now) (c1 .is-mark .ensures) (c .before .is-digits .ensures) (c .has-ending .ensures)
 
 pub is-foot-spec : {M : Type 1} → statement M
 is-foot-spec =

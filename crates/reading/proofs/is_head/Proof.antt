@@ -69,7 +69,12 @@ has-ending-requires : tie.Need-has-ending-requires
 has-ending-requires c κs = search needs
 
 returns : tie.Need-returns
-returns c = all (c .before .before .before .before .before .before .before .before .before .before .before .args .h .now) (c .before .before .before .before .before .before .before .is-mark .ensures) (c .before .before .before .before .before .is-duplicate .ensures) (c .before .before .before .is-plain .ensures) (c .before .is-digits .ensures) (c .has-ending .ensures)
+returns c =
+    let c1 = c .before .before .before in
+    let c2 = c1 .before .before in
+    let c3 = c2 .before .before in
+    let c4 = c3 .before .before .before .before in
+    all (c4 .args .h .now) (c3 .is-mark .ensures) (c2 .is-duplicate .ensures) (c1 .is-plain .ensures) (c .before .is-digits .ensures) (c .has-ending .ensures)
 
 pub is-head-spec : {M : Type 1} → statement M
 is-head-spec =

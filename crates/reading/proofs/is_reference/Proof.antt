@@ -72,7 +72,11 @@ has-ending-requires : tie.Need-has-ending-requires
 has-ending-requires c κs = search needs
 
 returns : tie.Need-returns
-returns c = all (c .before .before .before .before .before .before .before .before .before .args .k) (c .before .before .before .before .before .before .before .before .before .args .r .now) (c .before .before .before .before .before .before .before .before .before .pre .1) (c .before .before .before .before .before .is-mark .ensures) (c .before .before .before .number .ensures) (c .before .is-digits .ensures) (c .has-ending .ensures)
+returns c =
+    let c1 = c .before .before .before in
+    let c2 = c1 .before .before in
+    let c3 = c2 .before .before .before .before in
+    all (c3 .args .k) (c3 .args .r .now) (c3 .pre .1) (c2 .is-mark .ensures) (c1 .number .ensures) (c .before .is-digits .ensures) (c .has-ending .ensures)
 
 pub is-reference-spec : {M : Type 1} → statement M
 is-reference-spec =

@@ -89,7 +89,11 @@ loop-less : tie.Need-loop-less Inv-loop μ-loop
 loop-less c = search needs
 
 loop-again : tie.Need-loop-again Inv-loop μ-loop
-loop-again c = on (c .before .before .before .before .before .loop .inv) (c .before .before .before .before .loop-test .taken) (c .before .before .is-reference .ensures) (c .before .code-in .ensures) (c .counted .ensures)
+loop-again c =
+    let c1 = c .before .before in
+    let c2 = c1 .before .before in
+    let c3 = c2 .before in
+    on (c3 .loop .inv) (c2 .loop-test .taken) (c1 .is-reference .ensures) (c .before .code-in .ensures) (c .counted .ensures)
 
 returns : tie.Need-returns Inv-loop μ-loop
 returns c = ends (c .before .loop .inv) (c .loop-test .left) (c .before .before .count-of .ensures)

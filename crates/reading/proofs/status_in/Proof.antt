@@ -6,7 +6,7 @@ use Prim.Native.Nat.{ℕ, _+_, _-_, _*_, _≤_}
 use native.Mathlib.Omega.{arith}
 use lib.ListN.{length, getD, take, drop}
 use borrow.Author.Tests.{le-leb}
-use Rattle.judge.specs.declared.Totals.{Totals}
+use Rattle.frame.specs.declared.Totals.{Totals}
 use Rattle.frame.specs.Records.{idOf}
 use Rattle.digits.specs.Digits.{numberOf}
 use Rattle.base.specs.Bytes.{field}
@@ -117,7 +117,9 @@ number-requires-3 : tie.Need-number-requires-3
 number-requires-3 c κs = search needs
 
 cast-t32 : tie.Need-cast-t32
-cast-t32 c = omega (arith, small 6 (drop 46 (c .before .before .before .before .before .before .before .before .before .before .before .before .before .before .args .x .now)))
+cast-t32 c =
+    let c1 = c .before .before .before .before .before .before .before .before .before .before .before .before .before .before in
+    omega (arith, small 6 (drop 46 (c1 .args .x .now)))
 
 sub-number-4 : tie.Need-sub-number-4
 sub-number-4 c = search needs
@@ -132,12 +134,20 @@ number-requires-4 : tie.Need-number-requires-4
 number-requires-4 c κs = search needs
 
 cast-t38 : tie.Need-cast-t38
-cast-t38 c = omega (arith, small 2 (drop 52 (c .before .before .before .before .before .before .before .before .before .before .before .before .before .before .before .before .args .x .now)))
+cast-t38 c =
+    let c1 = c .before .before .before .before .before .before .before .before .before .before .before .before .before .before .before .before in
+    omega (arith, small 2 (drop 52 (c1 .args .x .now)))
 
 returns : tie.Need-returns
 returns c =
-    let x = c .before .before .before .before .before .before .before .before .before .before .before .before .before .before .before .before .args .x .now in
-    said x (omega arith) (c .before .before .before .before .before .before .before .before .before .before .before .before .before .before .count-of .ensures) (c .before .before .before .before .before .before .before .before .identifier .ensures) (c .before .before .before .before .before .before .number .ensures) (c .before .before .before .before .number2 .ensures) (c .before .before .number3 .ensures) (c .number4 .ensures) (c .before .before .before .before .before .before .before .before .before .before .before .before .totals-at .ensures) (c .before .before .before .before .before .before .before .before .before .before .totals-at2 .ensures)
+    let c1 = c .before .before .before .before .before .before .before .before .before .before .before .before .before .before in
+    let c2 = c1 .before .before in
+    let x = c2 .args .x .now in
+    said x (omega arith) (c1 .count-of .ensures) (c .before .before .before .before .before .before .before .before .identifier .ensures)
+    (c .before .before .before .before .before .before .number .ensures) (c .before .before .before .before .number2 .ensures)
+    (c .before .before .number3 .ensures) (c .number4 .ensures)
+    (c .before .before .before .before .before .before .before .before .before .before .before .before .totals-at .ensures)
+    (c .before .before .before .before .before .before .before .before .before .before .totals-at2 .ensures)
 
 pub status-in-spec : {M : Type 1} → statement M
 status-in-spec =

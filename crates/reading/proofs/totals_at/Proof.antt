@@ -49,7 +49,10 @@ number-requires-2 : tie.Need-number-requires-2
 number-requires-2 c κs = search needs
 
 returns : tie.Need-returns
-returns c = both (c .before .before .before .before .before .args .at) (c .before .before .before .before .before .args .f .now) (c .before .before .number .result) (c .number2 .result) (c .before .before .number .ensures) (c .number2 .ensures)
+returns c =
+    let c1 = c .before .before in
+    let c2 = c1 .before .before .before in
+    both (c2 .args .at) (c2 .args .f .now) (c1 .number .result) (c .number2 .result) (c1 .number .ensures) (c .number2 .ensures)
 
 pub totals-at-spec : {M : Type 1} → statement M
 totals-at-spec =

@@ -1,10 +1,10 @@
 -- `text::is_text` meets its contract: bytes that are all 20h to 7Eh are text.
 -- Assumes nothing.
 use mathlib.Core.Path.{_≡_, sym, _∙_}
-use mathlib.Core.Bool.{Bool, true, _||_}
+use mathlib.Core.Bool.{true}
 use Prim.Native.Nat.{ℕ}
 use Rattle.base.proofs.Every.{weaker}
-use Rattle.text.specs.Text.{plain, letter, oneOf, hungarian}
+use Rattle.text.specs.Text.{plain, letter}
 use borrow.Author.Needs.{needs}
 use Rattle.text.proofs.is_text.Statement.{statement}
 use Rattle.text.proofs.is_text.Tie as tie

@@ -1,6 +1,6 @@
 -- `text::put` meets its contract: the bytes put so far stand over the front.
 -- Assumes nothing.
-use mathlib.Core.Path.{_≡_, refl, sym, ap, _∙_}
+use mathlib.Core.Path.{_≡_, sym, ap, _∙_}
 use mathlib.Core.Bool.{Bool, true, false}
 use mathlib.Core.List.{List, [], _∷_, _++_}
 use Prim.Native.Nat.{ℕ, _+_, _-_, _≤_, _<_}
@@ -24,7 +24,8 @@ over-more xs s i h k =
     let b = getD s i 0 in
     let l : length (take i s) ≡ i = length-take-le i s (omega arith) in
     let t : take (i + 1) s ≡ take i s ++ (b ∷ []) = rw add-one (take-suc s i 0 h) in
-    ap (λ (n : ℕ). set (over xs 0 (take i s)) n b) (sym (zero-add (length (take i s)) ∙ l)) ∙ over-set xs 0 (take i s) b (omega (arith, l)) ∙ ap (over xs 0) (sym t)
+    let z : i ≡ 0 + length (take i s) = sym (zero-add (length (take i s)) ∙ l) in
+    ap (λ (n : ℕ). set (over xs 0 (take i s)) n b) z ∙ over-set xs 0 (take i s) b (omega (arith, l)) ∙ ap (over xs 0) (sym t)
 
 record Putting (xs s ys : List ℕ) (i : ℕ) : Type 0 where
   within : i ≤ length s
@@ -74,7 +75,10 @@ shared-slice-read-out : tie.Need-shared-slice-read-out Inv-loop μ-loop
 shared-slice-read-out c = search needs
 
 slice-write-out : tie.Need-slice-write-out Inv-loop μ-loop
-slice-write-out c = roomy (c .before .before .before .before .args .out .now) (c .before .before .before .before .args .s .now) (c .before .before .loop .inv) (c .before .loop-test .taken)
+slice-write-out c =
+    let loop = c .before .before in
+    let a = loop .before .before .args in
+    roomy (a .out .now) (a .s .now) (loop .loop .inv) (c .before .loop-test .taken)
 
 add-i : tie.Need-add-i Inv-loop μ-loop
 add-i c = search needs
@@ -83,13 +87,20 @@ loop-less : tie.Need-loop-less Inv-loop μ-loop
 loop-less c = search needs
 
 loop-again : tie.Need-loop-again Inv-loop μ-loop
-loop-again c = on (c .before .before .before .before .args .out .now) (c .before .before .before .before .args .s .now) (c .before .before .loop .inv) (c .before .loop-test .taken)
+loop-again c =
+    let loop = c .before .before in
+    let a = loop .before .before .args in
+    on (a .out .now) (a .s .now) (loop .loop .inv) (c .before .loop-test .taken)
 
 same-length : tie.Need-same-length Inv-loop μ-loop
-same-length c = long (c .before .before .before .args .out .now) (c .before .before .before .args .s .now) (c .before .loop .inv)
+same-length c =
+    let a = c .before .before .before .args in
+    long (a .out .now) (a .s .now) (c .before .loop .inv)
 
 returns-2 : tie.Need-returns-2 Inv-loop μ-loop
-returns-2 c = ends (c .before .before .before .args .out .now) (c .before .before .before .args .s .now) (c .before .loop .inv) (c .loop-test .left)
+returns-2 c =
+    let a = c .before .before .before .args in
+    ends (a .out .now) (a .s .now) (c .before .loop .inv) (c .loop-test .left)
 
 pub put-spec : {M : Type 1} → statement M
 put-spec =

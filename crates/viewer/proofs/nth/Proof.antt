@@ -60,7 +60,9 @@ met-at-requires : tie.Need-met-at-requires Inv-loop μ-loop
 met-at-requires c κs = search needs
 
 returns : tie.Need-returns Inv-loop μ-loop
-returns c = stopped (c .before .before .before .before .loop .inv) (c .met-at .result) (c .before .before .moved-from .result) (c .met-at .ensures) (c .before .before .moved-from .ensures) (c .before .if1 .taken)
+returns c =
+    let b = c .before .before in
+    stopped (b .before .before .loop .inv) (c .met-at .result) (b .moved-from .result) (c .met-at .ensures) (b .moved-from .ensures) (c .before .if1 .taken)
 
 add-i : tie.Need-add-i Inv-loop μ-loop
 add-i c = search needs

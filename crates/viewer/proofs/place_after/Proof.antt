@@ -34,19 +34,34 @@ enum-told-2 : tie.Need-enum-told-2
 enum-told-2 c = search needs
 
 returns : tie.Need-returns
-returns c = arm (c .before .before .before .before .before .args .message .now) (c .before .before .before .before .before .args .at) (c .before .before .before .record-at .result) _ (c .before .before .before .record-at .ensures) (c .before .next .given .1)
+returns c =
+    let b = c .before .before .before in
+    let a = b .before .before .args in
+    arm (a .message .now) (a .at) (b .record-at .result) _ (b .record-at .ensures) (c .before .next .given .1)
 
 returns-2 : tie.Need-returns-2
-returns-2 c = arm (c .before .before .before .before .before .args .message .now) (c .before .before .before .before .before .args .at) (c .before .before .before .record-at .result) _ (c .before .before .before .record-at .ensures) (c .before .next2 .given .1)
+returns-2 c =
+    let b = c .before .before .before in
+    let a = b .before .before .args in
+    arm (a .message .now) (a .at) (b .record-at .result) _ (b .record-at .ensures) (c .before .next2 .given .1)
 
 returns-3 : tie.Need-returns-3
-returns-3 c = arm (c .before .before .before .before .before .args .message .now) (c .before .before .before .before .before .args .at) (c .before .before .before .record-at .result) _ (c .before .before .before .record-at .ensures) (c .before .next3 .given .1)
+returns-3 c =
+    let b = c .before .before .before in
+    let a = b .before .before .args in
+    arm (a .message .now) (a .at) (b .record-at .result) _ (b .record-at .ensures) (c .before .next3 .given .1)
 
 returns-4 : tie.Need-returns-4
-returns-4 c = arm (c .before .before .before .before .args .message .now) (c .before .before .before .before .args .at) (c .before .before .record-at .result) _ (c .before .before .record-at .ensures) (c .enum-told .given .1)
+returns-4 c =
+    let b = c .before .before in
+    let a = b .before .before .args in
+    arm (a .message .now) (a .at) (b .record-at .result) _ (b .record-at .ensures) (c .enum-told .given .1)
 
 returns-5 : tie.Need-returns-5
-returns-5 c = arm (c .before .before .before .before .args .message .now) (c .before .before .before .before .args .at) (c .before .before .record-at .result) _ (c .before .before .record-at .ensures) (c .enum-told2 .given .1)
+returns-5 c =
+    let b = c .before .before in
+    let a = b .before .before .args in
+    arm (a .message .now) (a .at) (b .record-at .result) _ (b .record-at .ensures) (c .enum-told2 .given .1)
 
 pub place-after-spec : {M : Type 1} → statement M
 place-after-spec =

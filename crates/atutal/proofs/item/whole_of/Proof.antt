@@ -1,7 +1,6 @@
 -- `atutal::item::whole_of` meets its contract: type and amount alone have such a code.
 -- Assumes nothing.
-use mathlib.Core.Path.{_≡_, sym, _∙_}
-use Prim.Native.Nat.{ℕ}
+use mathlib.Core.Path.{sym, _∙_}
 use Rattle.findings.specs.Codes.{eitherCode}
 use Rattle.findings.proofs.Row.{or-none}
 use Rattle.atutal.proofs.Tables.{whole-row}

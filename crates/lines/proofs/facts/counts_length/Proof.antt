@@ -5,7 +5,7 @@ use Prim.Native.Nat.{_+_}
 use native.Mathlib.Omega.{arith}
 use lib.ListN.{length, length-append}
 use Rattle.digits.proofs.Figures.{figures-length}
-use Rattle.status.specs.declared.Status.{Status}
+use Rattle.frame.specs.declared.Status.{Status}
 use Rattle.lines.specs.Slip.{places}
 use Rattle.lines.specs.Facts.{wide, countLines}
 use borrow.Author.Needs.{needs}
@@ -48,7 +48,14 @@ add-result-2 : tie.Need-add-result-2
 add-result-2 c = search needs
 
 returns : tie.Need-returns
-returns c = let l = counts-long (c .before .before .before .before .before .before .before .args .s) in (omega (arith, c .before .before .before .before .places .ensures .0, c .before .before .before .places2 .ensures .0, c .before .before .places3 .ensures .0, c .before .places4 .ensures .0, c .width .ensures .0), omega arith)
+returns c =
+    let fourth = c .before in
+    let third = fourth .before in
+    let second = third .before in
+    let first = second .before in
+    let l = counts-long (first .before .before .before .args .s) in
+    let e = c .width .ensures .0 in
+    (omega (arith, first .places .ensures .0, second .places2 .ensures .0, third .places3 .ensures .0, fourth .places4 .ensures .0, e), omega arith)
 
 pub counts-length-spec : {M : Type 1} → statement M
 counts-length-spec =

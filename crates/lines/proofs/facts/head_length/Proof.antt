@@ -6,7 +6,7 @@ use Prim.Native.Nat.{_+_}
 use native.Mathlib.Omega.{arith}
 use lib.ListN.{length, length-append}
 use Rattle.digits.proofs.Figures.{figures-length}
-use Rattle.status.specs.declared.Status.{Status}
+use Rattle.frame.specs.declared.Status.{Status}
 use Rattle.lines.specs.Facts.{wide, orderLine, addressLines, ownLines}
 use borrow.Author.Needs.{needs}
 use Rattle.lines.proofs.facts.head_length.Statement.{statement}
@@ -63,7 +63,14 @@ add-result-4 : tie.Need-add-result-4
 add-result-4 c = search needs
 
 returns : tie.Need-returns
-returns c = let l = long (c .before .before .before .before .before .before .before .before .before .before .before .args .s) in (omega (arith, c .before .before .before .before .order-length .ensures .0, c .before .before .before .before .before .before .before .before .width .ensures .0, c .before .before .before .before .before .before .width2 .ensures .0, c .before .before .width3 .ensures .0, c .width4 .ensures .0), omega (arith, c .before .before .before .before .order-length .ensures .1))
+returns c =
+    let time = c .before .before in
+    let order = time .before .before in
+    let number = order .before .before in
+    let date = number .before .before in
+    let l = long (date .before .before .before .args .s) in
+    let o = order .order-length .ensures in
+    (omega (arith, o .0, date .width .ensures .0, number .width2 .ensures .0, time .width3 .ensures .0, c .width4 .ensures .0), omega (arith, o .1))
 
 pub head-length-spec : {M : Type 1} → statement M
 head-length-spec =

@@ -3,7 +3,7 @@
 use mathlib.Core.List.{List}
 use Prim.Native.Nat.{ℕ, _+_, _≤_}
 use lib.ListN.{length}
-use Rattle.status.specs.declared.Status.{Status}
+use Rattle.frame.specs.declared.Status.{Status}
 use Rattle.base.specs.Put.{Put}
 use Rattle.lines.specs.Facts.{orderLine, duplicateLine, addressLines}
 use Rattle.base.proofs.Put.{front, room, both}
@@ -29,7 +29,10 @@ slice-aggregate-put-order : tie.Need-slice-aggregate-put-order
 slice-aggregate-put-order c = search needs
 
 put-order-requires : tie.Need-put-order-requires
-put-order-requires c κs = (search needs, first (c .before .before .before .before .args .out .now) (c .before .before .before .before .args .at) (c .before .before .before .before .args .s) (c .before .before .before .before .pre))
+put-order-requires c κs =
+    let start = c .before .before .before .before in
+    let a = start .args in
+    (search needs, first (a .out .now) (a .at) (a .s) (start .pre))
 
 slice-aggregate-put-three : tie.Need-slice-aggregate-put-three
 slice-aggregate-put-three c = search needs
@@ -41,13 +44,22 @@ slice-aggregate-put-three-3 : tie.Need-slice-aggregate-put-three-3
 slice-aggregate-put-three-3 c = search needs
 
 put-three-requires : tie.Need-put-three-requires
-put-three-requires c κs = second (c .before .before .before .before .before .before .before .before .before .before .before .args .out .now) (c .before .before .before .before .before .before .before .before .before .before .before .args .at) (c .before .before .before .before .before .before .before .before .before .before .before .args .s) (c .before .before .before .before .before .before .before .before .before .before .before .pre) (c .before .before .before .before .before .before .put-order .ensures)
+put-three-requires c κs =
+    let at-put-order = c .before .before .before .before .before .before in
+    let start = at-put-order .before .before .before .before .before in
+    let a = start .args in
+    second (a .out .now) (a .at) (a .s) (start .pre) (at-put-order .put-order .ensures)
 
 same-length : tie.Need-same-length
 same-length c = search needs
 
 returns : tie.Need-returns
-returns c = all (c .before .before .before .before .before .before .before .before .before .before .before .before .before .before .args .out .now) (c .before .before .before .before .before .before .before .before .before .before .before .before .before .before .args .at) (c .before .before .before .before .before .before .before .before .before .before .before .before .before .before .args .s) (c .before .before .before .before .before .before .before .before .before .before .before .before .before .before .pre) (c .before .before .before .before .before .before .before .before .before .put-order .ensures) (c .before .before .put-three .ensures)
+returns c =
+    let at-put-three = c .before .before in
+    let at-put-order = at-put-three .before .before .before .before .before .before .before in
+    let start = at-put-order .before .before .before .before .before in
+    let a = start .args in
+    all (a .out .now) (a .at) (a .s) (start .pre) (at-put-order .put-order .ensures) (at-put-three .put-three .ensures)
 
 pub put-address-spec : {M : Type 1} → statement M
 put-address-spec =

@@ -4,7 +4,7 @@ use mathlib.Core.List.{List, _++_}
 use Prim.Native.Nat.{ℕ, _+_, _≤_}
 use lib.ListN.{length}
 use Rattle.base.specs.Bytes.{ascii}
-use Rattle.status.specs.declared.Status.{Status}
+use Rattle.frame.specs.declared.Status.{Status}
 use Rattle.base.specs.Put.{Put}
 use Rattle.lines.specs.Slip.{totalsLine}
 use Rattle.lines.specs.Facts.{fact, countLines}
@@ -46,25 +46,43 @@ slice-aggregate-put-totals : tie.Need-slice-aggregate-put-totals
 slice-aggregate-put-totals c = search needs
 
 put-totals-requires : tie.Need-put-totals-requires
-put-totals-requires c κs = first (c .before .before .before .before .before .args .out .now) (c .before .before .before .before .before .args .at) (c .before .before .before .before .before .args .s) (c .before .before .before .before .before .pre)
+put-totals-requires c κs =
+    let start = c .before .before .before .before .before in
+    let a = start .args in
+    first (a .out .now) (a .at) (a .s) (start .pre)
 
 slice-aggregate-put-totals-2 : tie.Need-slice-aggregate-put-totals-2
 slice-aggregate-put-totals-2 c = search needs
 
 put-totals-requires-2 : tie.Need-put-totals-requires-2
-put-totals-requires-2 c κs = second (c .before .before .before .before .before .before .before .before .before .before .args .out .now) (c .before .before .before .before .before .before .before .before .before .before .args .at) (c .before .before .before .before .before .before .before .before .before .before .args .s) (c .before .before .before .before .before .before .before .before .before .before .pre) (c .before .before .before .before .put-totals .ensures)
+put-totals-requires-2 c κs =
+    let at-put-totals = c .before .before .before .before in
+    let start = at-put-totals .before .before .before .before .before .before in
+    let a = start .args in
+    second (a .out .now) (a .at) (a .s) (start .pre) (at-put-totals .put-totals .ensures)
 
 slice-aggregate-put-fact : tie.Need-slice-aggregate-put-fact
 slice-aggregate-put-fact c = search needs
 
 put-fact-requires : tie.Need-put-fact-requires
-put-fact-requires c κs = third (c .before .before .before .before .before .before .before .before .before .before .before .before .before .before .before .args .out .now) (c .before .before .before .before .before .before .before .before .before .before .before .before .before .before .before .args .at) (c .before .before .before .before .before .before .before .before .before .before .before .before .before .before .before .args .s) (c .before .before .before .before .before .before .before .before .before .before .before .before .before .before .before .pre) (c .before .before .before .before .before .before .before .before .before .put-totals .ensures) (c .before .before .before .before .put-totals2 .ensures)
+put-fact-requires c κs =
+    let at-put-totals2 = c .before .before .before .before in
+    let at-put-totals = at-put-totals2 .before .before .before .before .before in
+    let start = at-put-totals .before .before .before .before .before .before in
+    let a = start .args in
+    third (a .out .now) (a .at) (a .s) (start .pre) (at-put-totals .put-totals .ensures) (at-put-totals2 .put-totals2 .ensures)
 
 same-length : tie.Need-same-length
 same-length c = search needs
 
 returns : tie.Need-returns
-returns c = all (c .before .before .before .before .before .before .before .before .before .before .before .before .before .before .before .before .before .before .args .out .now) (c .before .before .before .before .before .before .before .before .before .before .before .before .before .before .before .before .before .before .args .at) (c .before .before .before .before .before .before .before .before .before .before .before .before .before .before .before .before .before .before .args .s) (c .before .before .before .before .before .before .before .before .before .before .before .before .before .before .before .before .before .before .pre) (c .before .before .before .before .before .before .before .before .before .before .before .before .put-totals .ensures) (c .before .before .before .before .before .before .before .put-totals2 .ensures) (c .before .before .put-fact .ensures)
+returns c =
+    let at-put-fact = c .before .before in
+    let at-put-totals2 = at-put-fact .before .before .before .before .before in
+    let at-put-totals = at-put-totals2 .before .before .before .before .before in
+    let start = at-put-totals .before .before .before .before .before .before in
+    let a = start .args in
+    all (a .out .now) (a .at) (a .s) (start .pre) (at-put-totals .put-totals .ensures) (at-put-totals2 .put-totals2 .ensures) (at-put-fact .put-fact .ensures)
 
 pub put-counts-spec : {M : Type 1} → statement M
 put-counts-spec =

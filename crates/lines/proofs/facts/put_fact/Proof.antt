@@ -22,13 +22,20 @@ width-requires : tie.Need-width-requires
 width-requires c κs = search needs
 
 put-line-requires : tie.Need-put-line-requires
-put-line-requires c κs = (fits (c .before .before .before .before .args .out .now) (c .before .before .before .before .args .at) (c .before .before .before .before .args .word .now) (c .before .before .before .before .args .least) (c .before .before .before .before .args .n) (c .width .result) (c .width .ensures .0) (c .before .before .before .before .pre), c .width .ensures .2)
+put-line-requires c κs =
+    let start = c .before .before .before .before in
+    let a = start .args in
+    (fits (a .out .now) (a .at) (a .word .now) (a .least) (a .n) (c .width .result) (c .width .ensures .0) (start .pre), c .width .ensures .2)
 
 same-length : tie.Need-same-length
 same-length c = search needs
 
 returns : tie.Need-returns
-returns c = puts (c .before .before .before .before .before .before .before .args .out .now) (c .before .before .before .before .before .before .before .args .at) (c .before .before .before .before .before .before .before .args .word .now) (c .before .before .before .before .before .before .before .args .least) (c .before .before .before .before .before .before .before .args .n) (c .before .before .before .width .result) (c .before .before .before .width .ensures .0) (c .before .before .put-line .ensures)
+returns c =
+    let at-put-line = c .before .before in
+    let at-width = at-put-line .before in
+    let a = at-width .before .before .before .before .args in
+    puts (a .out .now) (a .at) (a .word .now) (a .least) (a .n) (at-width .width .result) (at-width .width .ensures .0) (at-put-line .put-line .ensures)
 
 pub put-fact-spec : {M : Type 1} → statement M
 put-fact-spec = tie.close (tie.spec width-requires put-line-requires same-length returns)

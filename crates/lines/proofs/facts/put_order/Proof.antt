@@ -10,6 +10,7 @@ use Rattle.base.specs.Put.{Put}
 use Rattle.lines.specs.Slip.{lineEnd}
 use Rattle.lines.specs.Facts.{orderLine}
 use Rattle.base.proofs.Put.{one, two, three, all-three}
+use Rattle.text.proofs.At.{PutAt, puts}
 use borrow.Author.Needs.{needs}
 use Rattle.lines.proofs.facts.put_order.Statement.{statement}
 use Rattle.lines.proofs.facts.put_order.Tie as tie
@@ -39,11 +40,10 @@ module _ (x : List ℕ) (a : ℕ) (id : List ℕ) (h : a + length (orderLine id)
     second = two x a initiator dated lineEnd fits p
 
     module _ {j : ℕ} {z : List ℕ} (q : Put y i dated j z) where
-      third : j + length lineEnd ≤ length z
-      third = three x a initiator dated lineEnd fits p q
-
-      all : {r : ℕ} {u : List ℕ} → Put z j lineEnd r u → Put x a (orderLine id) r u
-      all {r} {u} s = subst (λ (l : List ℕ). Put x a l r u) grouped (all-three x a initiator dated lineEnd fits p q s)
+      all : {r : ℕ} {u : List ℕ} → PutAt z j lineEnd r u → Put x a (orderLine id) r u
+      all {r} {u} s =
+          let last : Put z j lineEnd r u = puts z j lineEnd (three x a initiator dated lineEnd fits p q) s in
+          subst (λ (l : List ℕ). Put x a l r u) grouped (all-three x a initiator dated lineEnd fits p q last)
 
 slice-aggregate-put-three : tie.Need-slice-aggregate-put-three
 slice-aggregate-put-three c = search needs
@@ -61,7 +61,10 @@ slice-aggregate-put-three-2 : tie.Need-slice-aggregate-put-three-2
 slice-aggregate-put-three-2 c = search needs
 
 put-three-requires : tie.Need-put-three-requires
-put-three-requires c κs = first (c .before .before .before .before .before .before .args .out .now) (c .before .before .before .before .before .before .args .at) (c .before .before .before .before .before .before .args .id .now) (c .before .before .before .before .before .before .pre .1)
+put-three-requires c κs =
+    let start = c .before .before .before .before .before .before in
+    let a = start .args in
+    first (a .out .now) (a .at) (a .id .now) (start .pre .1)
 
 sub-put-three-2 : tie.Need-sub-put-three-2
 sub-put-three-2 c = search needs
@@ -85,19 +88,29 @@ part-put-three-end-3 : tie.Need-part-put-three-end-3
 part-put-three-end-3 c = search needs
 
 put-three-requires-2 : tie.Need-put-three-requires-2
-put-three-requires-2 c κs = second (c .before .before .before .before .before .before .before .before .before .before .before .before .before .args .out .now) (c .before .before .before .before .before .before .before .before .before .before .before .before .before .args .at) (c .before .before .before .before .before .before .before .before .before .before .before .before .before .args .id .now) (c .before .before .before .before .before .before .before .before .before .before .before .before .before .pre .1) (c .before .before .before .before .before .before .put-three .ensures)
+put-three-requires-2 c κs =
+    let at-put-three = c .before .before .before .before .before .before in
+    let start = at-put-three .before .before .before .before .before .before .before in
+    let a = start .args in
+    second (a .out .now) (a .at) (a .id .now) (start .pre .1) (at-put-three .put-three .ensures)
 
-slice-aggregate-put : tie.Need-slice-aggregate-put
-slice-aggregate-put c = search needs
+slice-aggregate-put-at : tie.Need-slice-aggregate-put-at
+slice-aggregate-put-at c = search needs
 
-put-requires : tie.Need-put-requires
-put-requires c κs = third (c .before .before .before .before .before .before .before .before .before .before .before .before .before .before .before .before .before .before .args .out .now) (c .before .before .before .before .before .before .before .before .before .before .before .before .before .before .before .before .before .before .args .at) (c .before .before .before .before .before .before .before .before .before .before .before .before .before .before .before .before .before .before .args .id .now) (c .before .before .before .before .before .before .before .before .before .before .before .before .before .before .before .before .before .before .pre .1) (c .before .before .before .before .before .before .before .before .before .before .before .put-three .ensures) (c .before .before .before .before .put-three2 .ensures)
+put-at-requires : tie.Need-put-at-requires
+put-at-requires c κs = search needs
 
 same-length : tie.Need-same-length
 same-length c = search needs
 
 returns : tie.Need-returns
-returns c = all (c .before .before .before .before .before .before .before .before .before .before .before .before .before .before .before .before .before .before .before .before .before .args .out .now) (c .before .before .before .before .before .before .before .before .before .before .before .before .before .before .before .before .before .before .before .before .before .args .at) (c .before .before .before .before .before .before .before .before .before .before .before .before .before .before .before .before .before .before .before .before .before .args .id .now) (c .before .before .before .before .before .before .before .before .before .before .before .before .before .before .before .before .before .before .before .before .before .pre .1) (c .before .before .before .before .before .before .before .before .before .before .before .before .before .before .put-three .ensures) (c .before .before .before .before .before .before .before .put-three2 .ensures) (c .before .before .put .ensures)
+returns c =
+    let ended = c .before .before in
+    let at-put-three2 = ended .before .before .before .before .before in
+    let at-put-three = at-put-three2 .before .before .before .before .before .before .before in
+    let start = at-put-three .before .before .before .before .before .before .before in
+    let a = start .args in
+    all (a .out .now) (a .at) (a .id .now) (start .pre .1) (at-put-three .put-three .ensures) (at-put-three2 .put-three2 .ensures) (ended .put-at .ensures)
 
 pub put-order-spec : {M : Type 1} → statement M
 put-order-spec =
@@ -117,7 +130,7 @@ put-order-spec =
     part-put-three-start-3
     part-put-three-end-3
     put-three-requires-2
-    slice-aggregate-put
-    put-requires
+    slice-aggregate-put-at
+    put-at-requires
     same-length
     returns)

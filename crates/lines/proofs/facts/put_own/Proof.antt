@@ -4,7 +4,7 @@ use mathlib.Core.List.{List, _++_}
 use Prim.Native.Nat.{ℕ, _+_, _≤_}
 use lib.ListN.{length}
 use Rattle.base.specs.Bytes.{ascii}
-use Rattle.status.specs.declared.Status.{Status}
+use Rattle.frame.specs.declared.Status.{Status}
 use Rattle.base.specs.Put.{Put}
 use Rattle.lines.specs.Facts.{fact, ownLines}
 use Rattle.base.proofs.Put.{one, two, three, three-fit, four, all-four}
@@ -58,7 +58,10 @@ cast-put-fact : tie.Need-cast-put-fact
 cast-put-fact c = search needs
 
 put-fact-requires : tie.Need-put-fact-requires
-put-fact-requires c κs = first (c .before .before .before .before .args .out .now) (c .before .before .before .before .args .at) (c .before .before .before .before .args .s) (c .before .before .before .before .pre)
+put-fact-requires c κs =
+    let start = c .before .before .before .before in
+    let a = start .args in
+    first (a .out .now) (a .at) (a .s) (start .pre)
 
 slice-aggregate-put-fact-2 : tie.Need-slice-aggregate-put-fact-2
 slice-aggregate-put-fact-2 c = search needs
@@ -67,7 +70,11 @@ cast-put-fact-2 : tie.Need-cast-put-fact-2
 cast-put-fact-2 c = search needs
 
 put-fact-requires-2 : tie.Need-put-fact-requires-2
-put-fact-requires-2 c κs = second (c .before .before .before .before .before .before .before .before .before .before .args .out .now) (c .before .before .before .before .before .before .before .before .before .before .args .at) (c .before .before .before .before .before .before .before .before .before .before .args .s) (c .before .before .before .before .before .before .before .before .before .before .pre) (c .before .before .before .before .before .put-fact .ensures)
+put-fact-requires-2 c κs =
+    let at-put-fact = c .before .before .before .before .before in
+    let start = at-put-fact .before .before .before .before .before in
+    let a = start .args in
+    second (a .out .now) (a .at) (a .s) (start .pre) (at-put-fact .put-fact .ensures)
 
 slice-aggregate-put-fact-3 : tie.Need-slice-aggregate-put-fact-3
 slice-aggregate-put-fact-3 c = search needs
@@ -76,7 +83,12 @@ cast-put-fact-3 : tie.Need-cast-put-fact-3
 cast-put-fact-3 c = search needs
 
 put-fact-requires-3 : tie.Need-put-fact-requires-3
-put-fact-requires-3 c κs = third (c .before .before .before .before .before .before .before .before .before .before .before .before .before .before .before .before .args .out .now) (c .before .before .before .before .before .before .before .before .before .before .before .before .before .before .before .before .args .at) (c .before .before .before .before .before .before .before .before .before .before .before .before .before .before .before .before .args .s) (c .before .before .before .before .before .before .before .before .before .before .before .before .before .before .before .before .pre) (c .before .before .before .before .before .before .before .before .before .before .before .put-fact .ensures) (c .before .before .before .before .before .put-fact2 .ensures)
+put-fact-requires-3 c κs =
+    let at-put-fact2 = c .before .before .before .before .before in
+    let at-put-fact = at-put-fact2 .before .before .before .before .before .before in
+    let start = at-put-fact .before .before .before .before .before in
+    let a = start .args in
+    third (a .out .now) (a .at) (a .s) (start .pre) (at-put-fact .put-fact .ensures) (at-put-fact2 .put-fact2 .ensures)
 
 slice-aggregate-put-fact-4 : tie.Need-slice-aggregate-put-fact-4
 slice-aggregate-put-fact-4 c = search needs
@@ -85,13 +97,27 @@ cast-put-fact-4 : tie.Need-cast-put-fact-4
 cast-put-fact-4 c = search needs
 
 put-fact-requires-4 : tie.Need-put-fact-requires-4
-put-fact-requires-4 c κs = fourth (c .before .before .before .before .before .before .before .before .before .before .before .before .before .before .before .before .before .before .before .before .before .before .args .out .now) (c .before .before .before .before .before .before .before .before .before .before .before .before .before .before .before .before .before .before .before .before .before .before .args .at) (c .before .before .before .before .before .before .before .before .before .before .before .before .before .before .before .before .before .before .before .before .before .before .args .s) (c .before .before .before .before .before .before .before .before .before .before .before .before .before .before .before .before .before .before .before .before .before .before .pre) (c .before .before .before .before .before .before .before .before .before .before .before .before .before .before .before .before .before .put-fact .ensures) (c .before .before .before .before .before .before .before .before .before .before .before .put-fact2 .ensures) (c .before .before .before .before .before .put-fact3 .ensures)
+put-fact-requires-4 c κs =
+    let at-put-fact3 = c .before .before .before .before .before in
+    let at-put-fact2 = at-put-fact3 .before .before .before .before .before .before in
+    let at-put-fact = at-put-fact2 .before .before .before .before .before .before in
+    let start = at-put-fact .before .before .before .before .before in
+    let a = start .args in
+    fourth (a .out .now) (a .at) (a .s) (start .pre) (at-put-fact .put-fact .ensures) (at-put-fact2 .put-fact2 .ensures) (at-put-fact3 .put-fact3 .ensures)
 
 same-length : tie.Need-same-length
 same-length c = search needs
 
 returns : tie.Need-returns
-returns c = all (c .before .before .before .before .before .before .before .before .before .before .before .before .before .before .before .before .before .before .before .before .before .before .before .before .before .args .out .now) (c .before .before .before .before .before .before .before .before .before .before .before .before .before .before .before .before .before .before .before .before .before .before .before .before .before .args .at) (c .before .before .before .before .before .before .before .before .before .before .before .before .before .before .before .before .before .before .before .before .before .before .before .before .before .args .s) (c .before .before .before .before .before .before .before .before .before .before .before .before .before .before .before .before .before .before .before .before .before .before .before .before .before .pre) (c .before .before .before .before .before .before .before .before .before .before .before .before .before .before .before .before .before .before .before .before .put-fact .ensures) (c .before .before .before .before .before .before .before .before .before .before .before .before .before .before .put-fact2 .ensures) (c .before .before .before .before .before .before .before .before .put-fact3 .ensures) (c .before .before .put-fact4 .ensures)
+returns c =
+    let at-put-fact4 = c .before .before in
+    let at-put-fact3 = at-put-fact4 .before .before .before .before .before .before in
+    let at-put-fact2 = at-put-fact3 .before .before .before .before .before .before in
+    let at-put-fact = at-put-fact2 .before .before .before .before .before .before in
+    let start = at-put-fact .before .before .before .before .before in
+    let a = start .args in
+    all (a .out .now) (a .at) (a .s) (start .pre) (at-put-fact .put-fact .ensures) (at-put-fact2 .put-fact2 .ensures) (at-put-fact3 .put-fact3 .ensures)
+    (at-put-fact4 .put-fact4 .ensures)
 
 pub put-own-spec : {M : Type 1} → statement M
 put-own-spec =

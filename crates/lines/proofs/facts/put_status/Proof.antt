@@ -5,7 +5,7 @@ use mathlib.Core.List.{List, _++_}
 use Prim.Native.Nat.{ℕ, _+_, _<_, _≤_}
 use native.Mathlib.Omega.{arith}
 use lib.ListN.{length, length-append}
-use Rattle.status.specs.declared.Status.{Status}
+use Rattle.frame.specs.declared.Status.{Status}
 use Rattle.base.specs.Put.{Written, Put}
 use Rattle.lines.specs.Facts.{addressLines, ownLines, countLines, statusText}
 use Rattle.base.proofs.Put.{one, two, three, all-three, written, unwritten}
@@ -51,22 +51,58 @@ add-if1 : tie.Need-add-if1
 add-if1 c = search needs
 
 returns : tie.Need-returns
-returns c = no-room (c .before .before .before .before .args .out .now) (c .before .before .before .before .args .s) (c .before .before .head-length .result) (c .before .before .head-length .ensures .0) (c .before .counts-length .result) (c .before .counts-length .ensures .0) (c .if1 .taken)
+returns c =
+    let at-counts-length = c .before in
+    let at-head-length = at-counts-length .before in
+    let a = at-head-length .before .before .args in
+    no-room (a .out .now) (a .s) (at-head-length .head-length .result) (at-head-length .head-length .ensures .0) (at-counts-length .counts-length .result)
+    (at-counts-length .counts-length .ensures .0) (c .if1 .taken)
 
 put-address-requires : tie.Need-put-address-requires
-put-address-requires c κs = first (c .before .before .before .before .before .args .out .now) (c .before .before .before .before .before .args .s) (c .before .before .before .head-length .result) (c .before .before .before .head-length .ensures .0) (c .before .before .counts-length .result) (c .before .before .counts-length .ensures .0) (c .before .if1 .left)
+put-address-requires c κs =
+    let at-if1 = c .before in
+    let at-counts-length = at-if1 .before in
+    let at-head-length = at-counts-length .before in
+    let a = at-head-length .before .before .args in
+    first (a .out .now) (a .s) (at-head-length .head-length .result) (at-head-length .head-length .ensures .0) (at-counts-length .counts-length .result)
+    (at-counts-length .counts-length .ensures .0) (at-if1 .if1 .left)
 
 put-own-requires : tie.Need-put-own-requires
-put-own-requires c κs = second (c .before .before .before .before .before .before .before .before .before .args .out .now) (c .before .before .before .before .before .before .before .before .before .args .s) (c .before .before .before .before .before .before .before .head-length .result) (c .before .before .before .before .before .before .before .head-length .ensures .0) (c .before .before .before .before .before .before .counts-length .result) (c .before .before .before .before .before .before .counts-length .ensures .0) (c .before .before .before .before .before .if1 .left) (c .before .before .before .put-address .ensures)
+put-own-requires c κs =
+    let at-put-address = c .before .before .before in
+    let at-if1 = at-put-address .before .before in
+    let at-counts-length = at-if1 .before in
+    let at-head-length = at-counts-length .before in
+    let a = at-head-length .before .before .args in
+    second (a .out .now) (a .s) (at-head-length .head-length .result) (at-head-length .head-length .ensures .0) (at-counts-length .counts-length .result)
+    (at-counts-length .counts-length .ensures .0) (at-if1 .if1 .left) (at-put-address .put-address .ensures)
 
 put-counts-requires : tie.Need-put-counts-requires
-put-counts-requires c κs = third (c .before .before .before .before .before .before .before .before .before .before .before .before .before .args .out .now) (c .before .before .before .before .before .before .before .before .before .before .before .before .before .args .s) (c .before .before .before .before .before .before .before .before .before .before .before .head-length .result) (c .before .before .before .before .before .before .before .before .before .before .before .head-length .ensures .0) (c .before .before .before .before .before .before .before .before .before .before .counts-length .result) (c .before .before .before .before .before .before .before .before .before .before .counts-length .ensures .0) (c .before .before .before .before .before .before .before .before .before .if1 .left) (c .before .before .before .before .before .before .before .put-address .ensures) (c .before .before .before .put-own .ensures)
+put-counts-requires c κs =
+    let at-put-own = c .before .before .before in
+    let at-put-address = at-put-own .before .before .before .before in
+    let at-if1 = at-put-address .before .before in
+    let at-counts-length = at-if1 .before in
+    let at-head-length = at-counts-length .before in
+    let a = at-head-length .before .before .args in
+    third (a .out .now) (a .s) (at-head-length .head-length .result) (at-head-length .head-length .ensures .0) (at-counts-length .counts-length .result)
+    (at-counts-length .counts-length .ensures .0) (at-if1 .if1 .left) (at-put-address .put-address .ensures) (at-put-own .put-own .ensures)
 
 same-length : tie.Need-same-length
 same-length c = search needs
 
 returns-2 : tie.Need-returns-2
-returns-2 c = all (c .before .before .before .before .before .before .before .before .before .before .before .before .before .before .before .before .args .out .now) (c .before .before .before .before .before .before .before .before .before .before .before .before .before .before .before .before .args .s) (c .before .before .before .before .before .before .before .before .before .before .before .before .before .before .head-length .result) (c .before .before .before .before .before .before .before .before .before .before .before .before .before .before .head-length .ensures .0) (c .before .before .before .before .before .before .before .before .before .before .before .before .before .counts-length .result) (c .before .before .before .before .before .before .before .before .before .before .before .before .before .counts-length .ensures .0) (c .before .before .before .before .before .before .before .before .before .before .before .before .if1 .left) (c .before .before .before .before .before .before .before .before .before .before .put-address .ensures) (c .before .before .before .before .before .before .put-own .ensures) (c .before .before .put-counts .ensures)
+returns-2 c =
+    let at-put-counts = c .before .before in
+    let at-put-own = at-put-counts .before .before .before .before in
+    let at-put-address = at-put-own .before .before .before .before in
+    let at-if1 = at-put-address .before .before in
+    let at-counts-length = at-if1 .before in
+    let at-head-length = at-counts-length .before in
+    let a = at-head-length .before .before .args in
+    all (a .out .now) (a .s) (at-head-length .head-length .result) (at-head-length .head-length .ensures .0) (at-counts-length .counts-length .result)
+    (at-counts-length .counts-length .ensures .0) (at-if1 .if1 .left) (at-put-address .put-address .ensures) (at-put-own .put-own .ensures)
+    (at-put-counts .put-counts .ensures)
 
 pub put-status-spec : {M : Type 1} → statement M
 put-status-spec =

@@ -25,10 +25,18 @@ places-requires : tie.Need-places-requires
 places-requires c κs = search needs
 
 returns : tie.Need-returns
-returns c = more (c .before .before .args .least) (c .before .before .args .n) (c .before .places .result) (c .before .places .ensures .0) (c .before .places .ensures .1) (c .before .places .ensures .2) (c .if1 .taken)
+returns c =
+    let at-places = c .before in
+    let a = at-places .before .args in
+    more (a .least) (a .n) (at-places .places .result) (at-places .places .ensures .0) (at-places .places .ensures .1) (at-places .places .ensures .2)
+    (c .if1 .taken)
 
 returns-2 : tie.Need-returns-2
-returns-2 c = own (c .before .before .args .least) (c .before .before .args .n) (c .before .places .result) (c .before .places .ensures .0) (c .before .places .ensures .1) (c .before .places .ensures .2) (c .if1 .left)
+returns-2 c =
+    let at-places = c .before in
+    let a = at-places .before .args in
+    own (a .least) (a .n) (at-places .places .result) (at-places .places .ensures .0) (at-places .places .ensures .1) (at-places .places .ensures .2)
+    (c .if1 .left)
 
 pub width-spec : {M : Type 1} → statement M
 width-spec = tie.close (tie.spec places-requires returns returns-2)

@@ -6,7 +6,7 @@ use Prim.Native.Nat.{ℕ, _+_, _<_, _≤_}
 use native.Mathlib.Omega.{arith}
 use lib.ListN.{length}
 use Rattle.base.specs.Bytes.{ascii}
-use Rattle.judge.specs.declared.Closing.{Closing}
+use Rattle.frame.specs.declared.Closing.{Closing}
 use Rattle.base.specs.Put.{Written, Put}
 use Rattle.lines.specs.Slip.{places, codeWidth, line, totalsLine, slipOf}
 use Rattle.base.proofs.Put.{front, room, both, one, two, three, all-three, written, unwritten}
@@ -85,8 +85,11 @@ put-line-requires : tie.Need-put-line-requires
 put-line-requires c κs =
     let c1 = c .before .before .before .before .before .before in
     let c2 = c1 .before in
-    let c3 = c2 .before .before in
-    (first (c3 .args .out .now) (c3 .args .k) (c2 .slip-length .result) (c2 .slip-length .ensures) (c1 .if1 .left) (c .before .code-width .result) (c .before .code-width .ensures .0), c .before .code-width .ensures .2)
+    let c3 = c2 .before .before in (
+      first (c3 .args .out .now) (c3 .args .k) (c2 .slip-length .result) (c2 .slip-length .ensures) (c1 .if1 .left) (c .before .code-width .result)
+          (c .before .code-width .ensures .0),
+      c .before .code-width .ensures .2,
+    )
 
 slice-aggregate-put-totals : tie.Need-slice-aggregate-put-totals
 slice-aggregate-put-totals c = search needs
@@ -98,7 +101,8 @@ put-totals-requires c κs =
     let c3 = c2 .before .before .before .before .before in
     let c4 = c3 .before in
     let c5 = c4 .before .before in
-    second (c5 .args .out .now) (c5 .args .k) (c4 .slip-length .result) (c4 .slip-length .ensures) (c3 .if1 .left) (c2 .code-width .result) (c1 .put-line .ensures) (c2 .code-width .ensures .0)
+    second (c5 .args .out .now) (c5 .args .k) (c4 .slip-length .result) (c4 .slip-length .ensures) (c3 .if1 .left) (c2 .code-width .result)
+    (c1 .put-line .ensures) (c2 .code-width .ensures .0)
 
 slice-aggregate-put-totals-2 : tie.Need-slice-aggregate-put-totals-2
 slice-aggregate-put-totals-2 c = search needs
@@ -111,7 +115,8 @@ put-totals-requires-2 c κs =
     let c4 = c3 .before .before .before .before .before in
     let c5 = c4 .before in
     let c6 = c5 .before .before in
-    third (c6 .args .out .now) (c6 .args .k) (c5 .slip-length .result) (c5 .slip-length .ensures) (c4 .if1 .left) (c3 .code-width .result) (c2 .put-line .ensures) (c3 .code-width .ensures .0) (c1 .put-totals .ensures)
+    third (c6 .args .out .now) (c6 .args .k) (c5 .slip-length .result) (c5 .slip-length .ensures) (c4 .if1 .left) (c3 .code-width .result)
+    (c2 .put-line .ensures) (c3 .code-width .ensures .0) (c1 .put-totals .ensures)
 
 slice-aggregate-put-line-2 : tie.Need-slice-aggregate-put-line-2
 slice-aggregate-put-line-2 c = search needs
@@ -127,8 +132,12 @@ put-line-requires-2 c κs =
     let c4 = c3 .before .before in
     let c5 = c4 .before .before .before .before .before in
     let c6 = c5 .before in
-    let c7 = c6 .before .before in
-    (fourth (c7 .args .out .now) (c7 .args .k) (c6 .slip-length .result) (c6 .slip-length .ensures) (c5 .if1 .left) (c4 .code-width .result) (c3 .put-line .ensures) (c4 .code-width .ensures .0) (c2 .put-totals .ensures) (c1 .put-totals2 .ensures) (c .places .result) (c .places .ensures .0), c .places .ensures .2)
+    let c7 = c6 .before .before in (
+      fourth (c7 .args .out .now) (c7 .args .k) (c6 .slip-length .result) (c6 .slip-length .ensures) (c5 .if1 .left) (c4 .code-width .result)
+          (c3 .put-line .ensures) (c4 .code-width .ensures .0) (c2 .put-totals .ensures) (c1 .put-totals2 .ensures) (c .places .result)
+          (c .places .ensures .0),
+      c .places .ensures .2,
+    )
 
 same-length : tie.Need-same-length
 same-length c = search needs
@@ -144,7 +153,9 @@ returns-2 c =
     let c7 = c6 .before .before .before .before .before in
     let c8 = c7 .before in
     let c9 = c8 .before .before in
-    all-four (c9 .args .out .now) (c9 .args .k) (c8 .slip-length .result) (c8 .slip-length .ensures) (c7 .if1 .left) (c6 .code-width .result) (c5 .put-line .ensures) (c6 .code-width .ensures .0) (c4 .put-totals .ensures) (c3 .put-totals2 .ensures) (c2 .places .result) (c2 .places .ensures .0) (c1 .put-line2 .ensures)
+    all-four (c9 .args .out .now) (c9 .args .k) (c8 .slip-length .result) (c8 .slip-length .ensures) (c7 .if1 .left) (c6 .code-width .result)
+    (c5 .put-line .ensures) (c6 .code-width .ensures .0) (c4 .put-totals .ensures) (c3 .put-totals2 .ensures) (c2 .places .result) (c2 .places .ensures .0)
+    (c1 .put-line2 .ensures)
 
 pub put-closing-spec : {M : Type 1} → statement M
 put-closing-spec =

@@ -1,60 +1,54 @@
 -- `lines::slip::put_line` meets its contract: three texts, one after the other.
 -- Assumes nothing.
 use mathlib.Core.List.{List}
-use Prim.Native.Nat.{ℕ, _+_, _≤_}
-use native.Mathlib.Omega.{arith}
+use Prim.Native.Nat.{ℕ, _+_, _^_, _≤_, _<_}
 use lib.ListN.{length}
-use Rattle.digits.specs.Digits.{figures}
-use Rattle.digits.proofs.Figures.{figures-length}
 use Rattle.base.specs.Put.{Put}
+use Rattle.text.proofs.At as text
+use Rattle.digits.proofs.At as digits
 use Rattle.lines.specs.Slip.{lineEnd, line}
-use Rattle.base.proofs.Put.{one, two, three, all-three}
+use Rattle.lines.proofs.Puts as puts
 use borrow.Author.Needs.{needs}
 use Rattle.lines.proofs.slip.put_line.Statement.{statement}
 use Rattle.lines.proofs.slip.put_line.Tie as tie
 
-digits-room : (x : List ℕ) (a : ℕ) (word : List ℕ) (w n : ℕ) → a + length (line word w n) ≤ length x → {i : ℕ} {y : List ℕ} → Put x a word i y → i + w ≤ length y
-digits-room x a word w n h p = omega (arith, figures-length w n, two x a word (figures w n) lineEnd h p)
+module _ (x : List ℕ) (a : ℕ) (word : List ℕ) (w n : ℕ) (h : (a + length (line word w n) ≤ length x) × (n < 10 ^ w)) where
+  all : {i j r : ℕ} {y z u : List ℕ} → text.PutAt x a word i y → digits.PutAt y i w n j z → text.PutAt z j lineEnd r u → Put x a (line word w n) r u
+  all {j = j} {z = z} p q s =
+      let room = puts.rest x a word w n (h .1) lineEnd (h .0) p q in
+      puts.all x a word w n (h .1) lineEnd (h .0) p q (text.puts z j lineEnd room s)
 
-put-requires : tie.Need-put-requires
-put-requires c κs =
-    let c1 = c .before .before .before in
-    one (c1 .args .out .now) (c1 .args .at) (c1 .args .word .now) (figures (c1 .args .w) (c1 .args .n)) lineEnd (c1 .pre .0)
+put-at-requires : tie.Need-put-at-requires
+put-at-requires c κs = search needs
 
-put-number-requires : tie.Need-put-number-requires
-put-number-requires c κs =
-    let c1 = c .before .before .before in
-    let c2 = c1 .before .before .before .before in
-    (digits-room (c2 .args .out .now) (c2 .args .at) (c2 .args .word .now) (c2 .args .w) (c2 .args .n) (c2 .pre .0) (c1 .put .ensures), c2 .pre .1)
+put-at-requires-2 : tie.Need-put-at-requires-2
+put-at-requires-2 c κs = search needs
 
-slice-aggregate-put : tie.Need-slice-aggregate-put
-slice-aggregate-put c = search needs
+slice-aggregate-put-at : tie.Need-slice-aggregate-put-at
+slice-aggregate-put-at c = search needs
 
-put-requires-2 : tie.Need-put-requires-2
-put-requires-2 c κs =
-    let c1 = c .before .before .before .before in
-    let c2 = c1 .before .before .before .before in
-    let c3 = c2 .before .before .before .before in
-    three (c3 .args .out .now) (c3 .args .at) (c3 .args .word .now) (figures (c3 .args .w) (c3 .args .n)) lineEnd (c3 .pre .0) (c2 .put .ensures) (c1 .put-number .ensures)
+put-at-requires-3 : tie.Need-put-at-requires-3
+put-at-requires-3 c κs = search needs
 
 same-length : tie.Need-same-length
 same-length c = search needs
 
 returns : tie.Need-returns
 returns c =
-    let c1 = c .before .before in
-    let c2 = c1 .before .before .before .before .before in
-    let c3 = c2 .before .before .before .before in
-    let c4 = c3 .before .before .before .before in
-    all-three (c4 .args .out .now) (c4 .args .at) (c4 .args .word .now) (figures (c4 .args .w) (c4 .args .n)) lineEnd (c4 .pre .0) (c3 .put .ensures) (c2 .put-number .ensures) (c1 .put2 .ensures)
+    let ended = c .before .before in
+    let counted = ended .before .before .before .before .before in
+    let named = counted .before .before .before .before in
+    let start = named .before .before .before .before in
+    let a = start .args in
+    all (a .out .now) (a .at) (a .word .now) (a .w) (a .n) (start .pre) (named .put-at .ensures) (counted .put-at2 .ensures) (ended .put-at3 .ensures)
 
 pub put-line-spec : {M : Type 1} → statement M
 put-line-spec =
     tie.close
     (tie.spec
-    put-requires
-    put-number-requires
-    slice-aggregate-put
-    put-requires-2
+    put-at-requires
+    put-at-requires-2
+    slice-aggregate-put-at
+    put-at-requires-3
     same-length
     returns)

@@ -7,8 +7,8 @@ use native.Mathlib.Omega.{arith}
 use lib.ListN.{length, length-append}
 use Rattle.base.specs.Bytes.{ascii}
 use Rattle.digits.proofs.Figures.{figures-length}
-use Rattle.findings.specs.Refusals.{refusalNumber}
-use Rattle.findings.specs.declared.refusal.Refusal.{Refusal}
+use Rattle.lent.specs.Lent.{refusalNumber}
+use Rattle.lent.specs.declared.Refusal.{Refusal}
 use Rattle.base.specs.Put.{Written, Put}
 use Rattle.lines.specs.Slip.{places, line, refusalLine}
 use Rattle.base.proofs.Put.{written, unwritten}
@@ -49,7 +49,8 @@ returns : tie.Need-returns
 returns c =
     let c1 = c .before .before in
     let c2 = c1 .before .before in
-    no-room (c2 .args .out .now) (c2 .args .r) (c1 .number .result) (c1 .number .ensures) (c .before .places .result) (c .before .places .ensures .0) (c .if1 .taken)
+    no-room (c2 .args .out .now) (c2 .args .r) (c1 .number .result) (c1 .number .ensures) (c .before .places .result) (c .before .places .ensures .0)
+    (c .if1 .taken)
 
 slice-aggregate-put-line : tie.Need-slice-aggregate-put-line
 slice-aggregate-put-line c = search needs
@@ -59,8 +60,11 @@ put-line-requires c κs =
     let c1 = c .before .before in
     let c2 = c1 .before in
     let c3 = c2 .before in
-    let c4 = c3 .before .before in
-    (fits (c4 .args .out .now) (c4 .args .r) (c3 .number .result) (c3 .number .ensures) (c2 .places .result) (c2 .places .ensures .0) (c1 .if1 .left), c2 .places .ensures .2)
+    let c4 = c3 .before .before in (
+      fits (c4 .args .out .now) (c4 .args .r) (c3 .number .result) (c3 .number .ensures) (c2 .places .result) (c2 .places .ensures .0)
+          (c1 .if1 .left),
+      c2 .places .ensures .2,
+    )
 
 same-length : tie.Need-same-length
 same-length c = search needs
@@ -72,7 +76,8 @@ returns-2 c =
     let c3 = c2 .before in
     let c4 = c3 .before in
     let c5 = c4 .before .before in
-    puts (c5 .args .out .now) (c5 .args .r) (c4 .number .result) (c4 .number .ensures) (c3 .places .result) (c3 .places .ensures .0) (c2 .if1 .left) (c1 .put-line .ensures)
+    puts (c5 .args .out .now) (c5 .args .r) (c4 .number .result) (c4 .number .ensures) (c3 .places .result) (c3 .places .ensures .0) (c2 .if1 .left)
+    (c1 .put-line .ensures)
 
 pub put-refusal-spec : {M : Type 1} → statement M
 put-refusal-spec =

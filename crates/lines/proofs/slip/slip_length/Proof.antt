@@ -1,18 +1,22 @@
 -- `lines::slip::slip_length` meets its contract: the lengths of the four lines.
 -- Assumes nothing.
 use mathlib.Core.Path.{_≡_}
-use Prim.Native.Nat.{_+_}
+use Prim.Native.Nat.{ℕ, _+_}
 use native.Mathlib.Omega.{arith}
 use lib.ListN.{length, length-append}
 use Rattle.digits.proofs.Figures.{figures-length}
-use Rattle.judge.specs.declared.Closing.{Closing}
+use Rattle.frame.specs.declared.Closing.{Closing}
+use Rattle.frame.specs.declared.Totals.{Totals}
 use Rattle.lines.specs.Slip.{places, codeWidth, slipOf}
 use borrow.Author.Needs.{needs}
 use Rattle.lines.proofs.slip.slip_length.Statement.{statement}
 use Rattle.lines.proofs.slip.slip_length.Tie as tie
 
-slip-long : (k : Closing) → length (slipOf k)
-    ≡ 36 + codeWidth (k .code) + (places (k .accepted .count) + places (k .accepted .sum)) + (places (k .refused .count) + places (k .refused .sum)) + places (k .zeros)
+-- the digits of totals
+abbrev both : Totals → ℕ
+both t = places (t .count) + places (t .sum)
+
+slip-long : (k : Closing) → length (slipOf k) ≡ 36 + codeWidth (k .code) + both (k .accepted) + both (k .refused) + places (k .zeros)
 unfolding slipOf
 slip-long k = simp (length-append, figures-length) (omega arith)
 
@@ -54,12 +58,15 @@ add-result-4 c = search needs
 
 returns : tie.Need-returns
 returns c =
-    let c1 = c .before .before in
-    let c2 = c1 .before in
-    let c3 = c2 .before in
-    let c4 = c3 .before in
-    let c5 = c4 .before .before .before in
-    let l = slip-long (c5 .args .k) in omega (arith, c4 .places .ensures .0, c3 .places2 .ensures .0, c2 .places3 .ensures .0, c1 .places4 .ensures .0, c .places5 .ensures .0, c .before .code-width .ensures .0)
+    let coded = c .before in
+    let fourth = coded .before in
+    let third = fourth .before in
+    let second = third .before in
+    let first = second .before in
+    let l = slip-long (first .before .before .before .args .k) in
+    let d = c .places5 .ensures .0 in
+    let e = coded .code-width .ensures .0 in
+    omega (arith, first .places .ensures .0, second .places2 .ensures .0, third .places3 .ensures .0, fourth .places4 .ensures .0, d, e)
 
 pub slip-length-spec : {M : Type 1} → statement M
 slip-length-spec =

@@ -1,16 +1,14 @@
 -- `status::reply::put_head` meets its contract: two parts, one after the other.
 -- Assumes nothing.
-use mathlib.Core.Path.{_≡_, refl, ap, _∙_}
-use mathlib.Core.List.{List, [], _∷_, _++_, append-assoc}
+use mathlib.Core.Path.{_≡_, ap, _∙_}
+use mathlib.Core.List.{List, _++_, append-assoc}
 use Prim.Native.Nat.{ℕ, _-_, _≤_}
-use native.Mathlib.Omega.{arith}
 use lib.ListN.{length, take, drop, length-append}
 use borrow.Rule.Slice.PartMut.{putMid}
-use Rattle.base.specs.Bytes.{ascii, over}
-use Rattle.digits.specs.Digits.{figures}
+use Rattle.base.specs.Bytes.{over}
 use Rattle.digits.proofs.Figures.{figures-length}
-use Rattle.status.specs.declared.Status.{Status}
-use Rattle.status.specs.Records.{ending, headRecord}
+use Rattle.frame.specs.declared.Status.{Status}
+use Rattle.status.specs.Records.{headRecord}
 use Rattle.status.specs.Writing.{address, own}
 use Rattle.status.proofs.Put.{first, after}
 use borrow.Author.Needs.{needs}
@@ -38,6 +36,10 @@ written xs s y z h l e f =
     let q = after p (own s) z 22 (own-length s) h f in
     q .is ∙ ap (over xs 0) (both s)
 
+-- the identifier's length, by its type
+id-long : (c : tie.Start) → length (c .args .s .id) ≡ 25
+id-long c = search needs
+
 slice-aggregate-put-address : tie.Need-slice-aggregate-put-address
 slice-aggregate-put-address c = search needs
 
@@ -60,7 +62,12 @@ same-length : tie.Need-same-length
 same-length c = search needs
 
 returns : tie.Need-returns
-returns c = written (c .before .before .before .before .before .before .before .before .before .before .before .args .out .now) (c .before .before .before .before .before .before .before .before .before .before .before .args .s) _ _ (c .before .before .before .before .before .before .before .before .before .before .before .pre .0) (search needs) (c .before .before .before .before .before .before .put-address .ensures) (c .before .before .put-own .ensures)
+returns c =
+    let at-put-own = c .before .before in
+    let at-put-address = at-put-own .before .before .before .before in
+    let start = at-put-address .before .before .before .before .before in
+    let a = start .args in
+    written (a .out .now) (a .s) _ _ (start .pre .0) (id-long start) (at-put-address .put-address .ensures) (at-put-own .put-own .ensures)
 
 pub put-head-spec : {M : Type 1} → statement M
 put-head-spec =

@@ -8,8 +8,8 @@ use lib.ListN.{length, take, drop}
 use lib.Seq.{length-take-le}
 use borrow.Rule.Slice.PartMut.{putMid}
 use Rattle.base.specs.Bytes.{over}
-use Rattle.frame.specs.Records.{atutal, itemsOf}
-use Rattle.status.specs.declared.Status.{Status}
+use Rattle.frame.specs.Records.{lengths, itemsOf}
+use Rattle.frame.specs.declared.Status.{Status}
 use Rattle.status.specs.Records.{headRecord, references, footRecord, written}
 use Rattle.status.specs.Writing.{Referable}
 use Rattle.status.proofs.Put.{first, after}
@@ -24,12 +24,12 @@ module _ (xs m cs : List ℕ) (s : Status) (h : 104 + s .references * 65 ≤ len
   n = s .references
 
   abbrev few : List (List ℕ)
-  few = take n (itemsOf atutal m)
+  few = take n (itemsOf lengths m)
 
   long : length (references 1 cs few) ≡ n * 65
   long =
-      let f : length few ≡ n = length-take-le n (itemsOf atutal m) (ok .items) in
-      references-length 1 cs few (omega (arith, f, ok .codes)) (items-take n (itemsOf atutal m) (items-of m)) ∙ omega (arith, f)
+      let f : length few ≡ n = length-take-le n (itemsOf lengths m) (ok .items) in
+      references-length 1 cs few (omega (arith, f, ok .codes)) (items-take n (itemsOf lengths m) (items-of m)) ∙ omega (arith, f)
 
   whole : (y z u : List ℕ) → y ≡ over xs 0 (headRecord s) → z ≡ over (take (length y - 56) (drop 56 y)) 0 (references 1 cs few)
       → u ≡ over (take (length (putMid 56 (length y - 56) y z) - (56 + n * 65)) (drop (56 + n * 65) (putMid 56 (length y - 56) y z))) 0 (footRecord s)
@@ -40,6 +40,10 @@ module _ (xs m cs : List ℕ) (s : Status) (h : 104 + s .references * 65 ≤ len
       let q = after p (references 1 cs few) z (n * 65) long (omega (arith, h)) f in
       let r = after q (footRecord s) u 48 (foot-length s) (omega (arith, h)) g in
       r .is
+
+-- the identifier's length, by its type
+id-long : (c : tie.Start) → length (c .args .s .id) ≡ 25
+id-long c = search needs
 
 put-head-requires : tie.Need-put-head-requires
 put-head-requires c κs = search needs
@@ -78,7 +82,14 @@ same-length : tie.Need-same-length
 same-length c = search needs
 
 returns : tie.Need-returns
-returns c = whole (c .before .before .before .before .before .before .before .before .before .before .before .before .before .before .before .args .out .now) (c .before .before .before .before .before .before .before .before .before .before .before .before .before .before .before .args .message .now) (c .before .before .before .before .before .before .before .before .before .before .before .before .before .before .before .args .codes .now) (c .before .before .before .before .before .before .before .before .before .before .before .before .before .before .before .args .s) (c .before .before .before .before .before .before .before .before .before .before .before .before .before .before .before .pre .1) (search needs) (c .before .before .before .before .before .before .before .before .before .before .before .before .before .before .before .pre .0 .1) _ _ _ (c .before .before .before .before .before .before .before .before .before .before .put-head .ensures) (c .before .before .before .before .before .before .put-references .ensures) (c .before .before .put-foot .ensures)
+returns c =
+    let at-put-foot = c .before .before in
+    let at-put-references = at-put-foot .before .before .before .before in
+    let at-put-head = at-put-references .before .before .before .before in
+    let start = at-put-head .before .before .before .before .before in
+    let a = start .args in
+    whole (a .out .now) (a .message .now) (a .codes .now) (a .s) (start .pre .1) (id-long start) (start .pre .0 .1) _ _ _ (at-put-head .put-head .ensures)
+    (at-put-references .put-references .ensures) (at-put-foot .put-foot .ensures)
 
 pub put-reply-spec : {M : Type 1} → statement M
 put-reply-spec =

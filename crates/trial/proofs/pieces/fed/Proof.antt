@@ -21,7 +21,8 @@ turn : (len count at i end j : ℕ) → j ≤ count → i + 1 ≤ j + (i + 1 - c
 turn len count at i end j h k f = smaller (len - end) (count - (i + 1)) (count - j) ((len - at) + (count - i)) (passed count i j h k) f
 
 abbrev Inv-loop : tie.InvT-loop
-Inv-loop message lengths banks known session₀ table₀ count at₀ i₀ session table at i = (length session ≡ length session₀) × (length table ≡ length table₀) × (at ≤ length message) × (i ≤ count) × (count ≡ length lengths / 4)
+Inv-loop message lengths banks known session₀ table₀ count at₀ i₀ session table at i =
+    (length session ≡ length session₀) × (length table ≡ length table₀) × (at ≤ length message) × (i ≤ count) × (count ≡ length lengths / 4)
 
 abbrev μ-loop : tie.MeasureT-loop
 μ-loop message lengths banks known session₀ table₀ count at₀ i₀ session table at i = (length message - at) + (count - i)

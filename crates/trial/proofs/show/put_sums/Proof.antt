@@ -37,11 +37,11 @@ loop-less c = search needs
 loop-again : tie.Need-loop-again Inv-loop μ-loop
 loop-again c = search needs
 
-put-number-requires : tie.Need-put-number-requires Inv-loop μ-loop
-put-number-requires c κs = search needs
+put-next-requires : tie.Need-put-next-requires Inv-loop μ-loop
+put-next-requires c κs = search needs
 
-put-number-requires-2 : tie.Need-put-number-requires-2 Inv-loop μ-loop
-put-number-requires-2 c κs = search needs
+put-next-requires-2 : tie.Need-put-next-requires-2 Inv-loop μ-loop
+put-next-requires-2 c κs = search needs
 
 returns : tie.Need-returns Inv-loop μ-loop
 returns c = search needs
@@ -60,6 +60,6 @@ put-sums-spec =
     add-i
     loop-less
     loop-again
-    put-number-requires
-    put-number-requires-2
+    put-next-requires
+    put-next-requires-2
     returns)

@@ -1,6 +1,6 @@
 -- `view::words::line_end` meets its contract: the place stays between the start and the end.
 -- Assumes nothing.
-use Prim.Native.Nat.{_+_, _-_, _≤_}
+use Prim.Native.Nat.{_-_, _≤_}
 use lib.ListN.{length}
 use borrow.Author.Needs.{needs}
 use Rattle.view.proofs.words.line_end.Statement.{statement}

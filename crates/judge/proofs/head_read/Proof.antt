@@ -1,0 +1,23 @@
+-- `judge::head_read` meets its contract.
+-- Assumes nothing.
+use Rattle.lent.specs.Lent.{lent}
+use Rattle.judge.proofs.Tallies.{head-read}
+use borrow.Author.Needs.{needs}
+use Rattle.judge.proofs.head_read.Statement.{statement}
+use Rattle.judge.proofs.head_read.Tie as tie
+
+found-in-requires : tie.Need-found-in-requires
+found-in-requires c κs = search needs
+
+identifier-requires : tie.Need-identifier-requires
+identifier-requires c κs = search needs
+
+returns : tie.Need-returns
+returns c =
+    let f = c .before .before .before .found-in in
+    let a = c .before .before .before .before .before .before .before .args in
+    head-read (lent (a .day) (a .banks .now) (a .known .now)) (a .r .now) (a .tally) (f .result) (c .identifier .result) (f .ensures)
+    (c .identifier .ensures)
+
+pub head-read-spec : {M : Type 1} → statement M
+head-read-spec = tie.close (tie.spec found-in-requires identifier-requires returns)
