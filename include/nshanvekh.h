@@ -29,6 +29,11 @@ extern "C" {
 /* The most bytes of a code table, one for each item. */
 #define NSH_TABLE_MOST 10000
 
+/* The bytes of stack to leave for a call; a third of them is enough for all but nsh_reply, which keeps 10,000 codes there. This is
+   measured on real messages (examples/stack.c), with room to spare, and not proved: the proofs are about a machine whose stack has no
+   end. */
+#define NSH_STACK_BYTES 16384
+
 /* Refusals. */
 #define NSH_DONE 0
 #define NSH_DAY 1          /* the clearing day isn't a date */
@@ -110,8 +115,7 @@ uint32_t nsh_single(const uint8_t *record, size_t record_len, uint32_t day, cons
 #define NSH_KIND_OTHER 12
 
 /* The STATUS reply to a whole message goes to the front of out: refusals 99, 1, 2, 3, 6, 7, 8, 9. numbers[0] is its length, 104 bytes
-   or 104 + 65 for each item; bytes of out beyond it stay. duplicate is '0' or '@', number the reply's, time hhmmss. The call keeps
-   10,000 bytes on the stack. */
+   or 104 + 65 for each item; bytes of out beyond it stay. duplicate is '0' or '@', number the reply's, time hhmmss. */
 uint32_t nsh_reply(const uint8_t *message, size_t message_len, uint32_t day, const uint32_t *banks, size_t banks_len, const uint8_t *known,
                    size_t known_len, uint8_t duplicate, uint32_t number, uint32_t time, uint8_t *out, size_t out_len, uint64_t *numbers,
                    size_t numbers_len);

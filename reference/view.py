@@ -1,8 +1,10 @@
 """Expected output of the program `view`, which shows a message record by record.
 
     python3 reference/view.py crates/view/data < crates/view/stdin
+    python3 reference/view.py crates/view/data faults < reference/faulty
 
-The folder holds the files `day`, `banks` and `known`. Written from document 01
+The folder holds the files `day`, `banks` and `known`. With the word `faults` the
+records without a fault, a watch or a break are left out. Written from document 01
 and docs/CODES.md, not from the code that is held to it. The rules of the fields
 are in rules.py, the cutting and the verdict in message.py; here is what is said
 of them, in words.
@@ -242,8 +244,13 @@ def break_line(data, start, items):
     return "  BREAK at byte %d: %s" % (place + 1, what)
 
 
-def record_lines(data, day, banks, known):
-    """Each record in order, with its number and place; the break, where there is one, is the last."""
+# What the lines begin with that make a record one with a fault, a watch or a break.
+TOLD = ("  FAULT ", "  WATCH ", "  BREAK ")
+
+
+def record_lines(data, day, banks, known, only):
+    """Each record in order, with its number and place; the break, where there is one, is the last. Or only those that
+    have something to tell."""
     head, items, foot = message.cut(data)
     shown_records = []
     if head is not None:
@@ -257,7 +264,8 @@ def record_lines(data, day, banks, known):
         shown_records.append(("foot", foot_lines(foot, len(items), sum(map(rules.item_amount, items)))))
     lines = []
     for n, (start, (kind, below)) in enumerate(zip(starts, shown_records), 1):
-        lines += ["RECORD %d at byte %d: %s" % (n, start + 1, kind)] + below
+        if not only or any(line.startswith(TOLD) for line in below):
+            lines += ["RECORD %d at byte %d: %s" % (n, start + 1, kind)] + below
     return lines
 
 
@@ -272,7 +280,7 @@ def verdict_lines(data, day, banks, known):
     ]
 
 
-def view(folder, read):
+def view(folder, read, only=False):
     """All that the program prints; the message isn't read where a file is refused."""
     refusal, day, banks, known = files(folder)
     if refusal:
@@ -280,9 +288,9 @@ def view(folder, read):
     data = read()
     if len(data) > LONGEST:
         return ["MESSAGE TOO LONG: over 2510202 bytes, the length of 10000 items; nothing is shown"]
-    return record_lines(data, day, banks, known) + verdict_lines(data, day, banks, known)
+    return record_lines(data, day, banks, known, only) + verdict_lines(data, day, banks, known)
 
 
 if __name__ == "__main__":
-    for line in view(sys.argv[1] if len(sys.argv) > 1 else ".", sys.stdin.buffer.read):
+    for line in view(sys.argv[1] if len(sys.argv) > 1 else ".", sys.stdin.buffer.read, sys.argv[2:] == ["faults"]):
         sys.stdout.buffer.write(line.encode() + b"\n")

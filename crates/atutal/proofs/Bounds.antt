@@ -59,14 +59,14 @@ amount-lt r h =
     let e : length (take 10 (drop 16 r)) ≡ 10 = length-take-le 10 (drop 16 r) (omega (arith, length-drop 16 r)) in
     rw e at (number-lt (take 10 (drop 16 r)))
 
-pub small : (banks : List ℕ) (k : ℕ) (r : List ℕ) → Small (itemFound banks k r)
+pub small : (isListed : ℕ → Bool) (k : ℕ) (r : List ℕ) → Small (itemFound isListed k r)
 unfolding itemFound
-small banks k r =
+small isListed k r =
     one-of (eqb (length r) 249) _ _
     (λ e.
     record {
-      fault = rw same-rules at (whole-lt (itemFields banks k r));
-      code = rw same-rules at (alone-lt (itemFields banks k r));
+      fault = rw same-rules at (whole-lt (itemFields isListed k r));
+      code = rw same-rules at (alone-lt (itemFields isListed k r));
       amount = amount-lt r (eqb-true (length r) 249 e);
     })
     (record { fault = lit< tt; code = lit< tt; amount = lit< tt })

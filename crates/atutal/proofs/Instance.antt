@@ -4,6 +4,7 @@ use mathlib.Core.Path.{_≡_}
 use mathlib.Core.List.{[]}
 use Prim.Native.Nat.{ℕ, _^_, _<_, _≤_}
 use native.Mathlib.Omega.{arith}
+use Rattle.lists.specs.Banks.{foundIn}
 use Rattle.lent.specs.Lent.{Lent}
 use Rattle.frame.specs.Verdict.{messageCode}
 use Rattle.frame.specs.Sound.{Sound, mostCode, mostAmount}
@@ -24,12 +25,12 @@ module _ (l : Lent) where
   sound =
       record {
         told = λ r. omega arith;
-        head = λ r. two-digits (head-small (l .day) (l .lists .banks) (l .lists .known) r);
-        fault = λ told k r. two-digits (small (l .lists .banks) k r .fault);
-        code = λ told k r. two-digits (small (l .lists .banks) k r .code);
-        amount = λ told k r. ten-digits (small (l .lists .banks) k r .amount);
+        head = λ r. two-digits (head-small (l .day) (foundIn (l .lists .banks)) (l .lists .known) r);
+        fault = λ told k r. two-digits (small (foundIn (l .lists .banks)) k r .fault);
+        code = λ told k r. two-digits (small (foundIn (l .lists .banks)) k r .code);
+        amount = λ told k r. ten-digits (small (foundIn (l .lists .banks)) k r .amount);
         foot = λ count sum r. two-digits (foot-small count sum r);
-        foot-says = foot-says;
+        foot-says = λ count sum r e. let t = foot-says count sum r e in (t .0 .1, t .1 .1);
       }
 
   pub empty-message : messageCode (rules l) [] ≡ 26

@@ -2,3 +2,5 @@ pub mod Tables
 pub mod Bounds
 pub mod Totals
 pub mod Instance
+pub mod Faultless
+pub mod Listed

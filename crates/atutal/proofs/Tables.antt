@@ -1,6 +1,7 @@
 -- The codes of an item from its findings are those of the table of 1.3.1.
 -- Assumes nothing.
 use mathlib.Core.Path.{_≡_, refl, _∙_}
+use mathlib.Core.Bool.{Bool}
 use mathlib.Core.List.{List}
 use Prim.Native.Nat.{ℕ}
 use Rattle.frame.specs.Machine.{earlier}
@@ -60,6 +61,6 @@ module _ (x : ItemFindings) where
       )
 
 -- the table over the findings of an item is the item's
-pub same-rules : (banks : List ℕ) (k : ℕ) (r : List ℕ) → rulesOf (itemFields banks k r) ≡ itemRules banks k r
+pub same-rules : (isListed : ℕ → Bool) (k : ℕ) (r : List ℕ) → rulesOf (itemFields isListed k r) ≡ itemRules isListed k r
 unfolding itemRules rulesOf itemFields
-same-rules banks k r = refl
+same-rules isListed k r = refl

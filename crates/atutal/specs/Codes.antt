@@ -10,6 +10,7 @@ use Rattle.base.specs.Bytes.{ascii, field}
 use Rattle.text.specs.Text.{isText}
 use Rattle.digits.specs.Digits.{numberOf}
 use Rattle.account.specs.Account.{accountOf, isZeroAccount}
+use Rattle.lists.specs.Banks.{member, foundIn}
 use Rattle.frame.specs.declared.Found.{Found}
 use Rattle.frame.specs.Records.{lengths}
 use Rattle.frame.specs.Verdict.{Rules, first}
@@ -22,14 +23,14 @@ use Rattle.lent.specs.Lent.{Lent}
 use Rattle.heads.specs.Heads.{headFound}
 use Rattle.atutal.specs.declared.item.ItemFindings.{ItemFindings}
 
--- 1.3.1: what is found in each field of an item, with the bank list and the item's place
-unfoldable pub itemFields : List ℕ → ℕ → List ℕ → ItemFindings
-itemFields banks k r =
+-- 1.3.1: what is found in each field of an item, with which banks are listed and the item's place
+unfoldable pub itemFields : (ℕ → Bool) → ℕ → List ℕ → ItemFindings
+itemFields isListed k r =
     record {
       mark = markFound (ascii "02") (field 1 2 r);
       number = placeFound k (field 3 8 r);
       amount = amountOf (field 17 26 r);
-      bank = bankFound banks (field 27 34 r);
+      bank = bankFound isListed (field 27 34 r);
       account = accountFound (accountOf (field 35 50 r));
       customer = filledFound (field 51 74 r);
       owner = filledFound (field 145 179 r);
@@ -47,14 +48,14 @@ rulesOf f =
     ∷ rule named.Owner (always (T 62)) (f .owner)
     ∷ []
 
-unfoldable pub itemRules : List ℕ → ℕ → List ℕ → List Rule
-itemRules banks k r = rulesOf (itemFields banks k r)
+unfoldable pub itemRules : (ℕ → Bool) → ℕ → List ℕ → List Rule
+itemRules isListed k r = rulesOf (itemFields isListed k r)
 
 -- what is found in the fields of bytes of any length: nothing where that isn't an item's
-unfoldable pub itemFindings : List ℕ → ℕ → List ℕ → ItemFindings
-itemFindings banks k r =
+unfoldable pub itemFindings : (ℕ → Bool) → ℕ → List ℕ → ItemFindings
+itemFindings isListed k r =
     cond (eqb (length r) (lengths .item))
-    (itemFields banks k r)
+    (itemFields isListed k r)
     (record {
       mark = Right;
       number = Right;
@@ -70,13 +71,13 @@ abbrev pub itemLetter : List ℕ → Bool
 itemLetter r = not (isText (field 51 249 r))
 
 -- what is found in an item; an amount that isn't ten digits counts as 0; bytes of another length are a break
-unfoldable pub itemFound : List ℕ → ℕ → List ℕ → Found
-itemFound banks k r =
+unfoldable pub itemFound : (ℕ → Bool) → ℕ → List ℕ → Found
+itemFound isListed k r =
     cond (eqb (length r) (lengths .item))
     (record {
       letter = itemLetter r;
-      fault = firstWhole (itemRules banks k r);
-      code = firstAlone (itemRules banks k r);
+      fault = firstWhole (itemRules isListed k r);
+      code = firstAlone (itemRules isListed k r);
       amount = numberOf (field 17 26 r);
       zero = isZeroAccount (field 35 50 r);
     })
@@ -89,15 +90,23 @@ footCode count sum r =
     (first (totalCode 6 count 18 (field 3 8 r) ∷ totalCode 16 sum 19 (field 9 24 r) ∷ []))
     26
 
--- the rules of ATUTAL, for what is lent; its head tells the items nothing
-abbrev pub rules : Lent → Rules
-rules l =
+-- the rules of ATUTAL, with E, which banks are listed, and the known list; its head tells the items nothing
+abbrev pub rulesBy : ℕ → (ℕ → Bool) → List ℕ → Rules
+rulesBy e isListed known =
     record {
       tells = λ r. 0;
-      headLetter = λ r. headFound (l .day) (l .lists .banks) (l .lists .known) r .letter;
-      headCode = λ r. headFound (l .day) (l .lists .banks) (l .lists .known) r .code;
-      item = λ told k r. itemFound (l .lists .banks) k r;
+      headLetter = λ r. headFound e isListed known r .letter;
+      headCode = λ r. headFound e isListed known r .code;
+      item = λ told k r. itemFound isListed k r;
       footCode = footCode;
       footCount = λ r. numberOf (field 3 8 r);
       footSum = λ r. numberOf (field 9 24 r);
     }
+
+-- for what is lent, as the search by halves finds a bank
+abbrev pub rules : Lent → Rules
+rules l = rulesBy (l .day) (foundIn (l .lists .banks)) (l .lists .known)
+
+-- and by membership of the bank list
+abbrev pub memberRules : Lent → Rules
+memberRules l = rulesBy (l .day) (λ x. member x (l .lists .banks)) (l .lists .known)

@@ -1,6 +1,7 @@
 // An item of an ATUTAL message (002 section 1.3.1).
 ghost use mathlib.Core.Path.{_≡_};
 ghost use lib.ListN.{length};
+ghost use Rattle.lists.specs.Banks.{foundIn};
 ghost use Rattle.frame.specs.Records.{lengths};
 ghost use Rattle.findings.specs.Codes.{firstWhole, firstAlone};
 ghost use Rattle.atutal.specs.Codes.{itemFields, itemFindings, rulesOf, itemFound};
@@ -25,7 +26,7 @@ pub struct ItemFindings {
 // What is found in the fields of a whole item, by its place and the bank list.
 fn fields_in(r: &[u8], k: u64, banks: &[u32]) -> ItemFindings
     requires { ⌜ length (now r) ≡ lengths .item ⌝ }
-    ensures { λ f. ⌜ f ≡ itemFields (now (banks .entry)) k (now (r .entry)) ⌝ }
+    ensures { λ f. ⌜ f ≡ itemFields (foundIn (now (banks .entry))) k (now (r .entry)) ⌝ }
 {
     ItemFindings {
         mark: fields::type_found(&r[0..2], b'2'),
@@ -40,7 +41,7 @@ fn fields_in(r: &[u8], k: u64, banks: &[u32]) -> ItemFindings
 
 // What is found in the fields of an item, by its place and the bank list; nothing in bytes of another length.
 pub fn all_findings(r: &[u8], k: u64, banks: &[u32]) -> ItemFindings
-    ensures { λ f. ⌜ f ≡ itemFindings (now (banks .entry)) k (now (r .entry)) ⌝ }
+    ensures { λ f. ⌜ f ≡ itemFindings (foundIn (now (banks .entry))) k (now (r .entry)) ⌝ }
 {
     if r.len() == frame::ITEM {
         return fields_in(r, k, banks);
@@ -91,7 +92,7 @@ fn alone_of(f: ItemFindings) -> u8
 // What is found in an item at place k: a bad letter, its codes, its amount, and whether its account is one of zeros.
 // The fields are judged straight on: most items have no fault. Bytes of another length are a break.
 pub fn found_in(r: &[u8], k: u64, banks: &[u32]) -> frame::Found
-    ensures { λ x. ⌜ x ≡ itemFound (now (banks .entry)) k (now (r .entry)) ⌝ }
+    ensures { λ x. ⌜ x ≡ itemFound (foundIn (now (banks .entry))) k (now (r .entry)) ⌝ }
 {
     if r.len() != frame::ITEM {
         return frame::Found {

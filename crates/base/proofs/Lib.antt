@@ -5,3 +5,4 @@ pub mod Same
 pub mod Over
 pub mod Put
 pub mod Written
+pub mod Tables

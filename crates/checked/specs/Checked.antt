@@ -15,7 +15,6 @@ use Rattle.calendar.specs.Calendar.{isWithin, isBefore}
 use Rattle.calendar.specs.DateField.{dateField}
 use Rattle.calendar.specs.declared.DateField.{DateField}
 use Rattle.calendar.specs.declared.DateField.the-variants as inField
-use Rattle.lists.specs.Banks.{foundIn}
 use Rattle.findings.specs.declared.Finding.{Finding}
 use Rattle.findings.specs.declared.Finding.the-variants.{Right, Fault}
 use Rattle.findings.specs.declared.Kind.the-variants.{Form, NotDigits, CheckDigit, NoDate, OutsideDays, NotListed, Other}
@@ -53,9 +52,9 @@ unfoldable pub debitFound : ℕ → ℕ → List ℕ → Finding
 debitFound e c s = dateFound (debitDay e c) (dateField s)
 
 -- bank: eight digits that satisfy the check digit, listed
-unfoldable pub bankFound : List ℕ → List ℕ → Finding
-bankFound banks s =
-    unless (digitsOf 8 s) NotDigits (unless (satisfies s) CheckDigit (unless (foundIn banks (numberOf s)) NotListed Right))
+unfoldable pub bankFound : (ℕ → Bool) → List ℕ → Finding
+bankFound isListed s =
+    unless (digitsOf 8 s) NotDigits (unless (satisfies s) CheckDigit (unless (isListed (numberOf s)) NotListed Right))
 
 -- account: its form, then its check digit
 abbrev pub accountFound : Account → Finding

@@ -1,6 +1,7 @@
 // Fields with a check digit, a date or a list: what is found in an initiator, a date, a debit date, a bank, an account.
 ghost use mathlib.Core.Path.{_≡_};
 ghost use Rattle.account.specs.Account.{accountOf};
+ghost use Rattle.lists.specs.Banks.{foundIn};
 ghost use Rattle.checked.specs.Checked.{
   isTaxForm,
   initiatorFound,
@@ -83,7 +84,7 @@ pub fn debit_found(s: &[u8], e: u32, c: u32) -> Finding
 
 // A bank: eight digits, its check digit, listed. What satisfies the check digit is digits.
 pub fn bank_found(s: &[u8], banks: &[u32]) -> Finding
-    ensures { λ f. ⌜ f ≡ bankFound (now (banks .entry)) (now (s .entry)) ⌝ }
+    ensures { λ f. ⌜ f ≡ bankFound (foundIn (now (banks .entry))) (now (s .entry)) ⌝ }
 {
     if s.len() != 8 {
         return Finding::Fault(Kind::NotDigits);

@@ -13,6 +13,7 @@ use Rattle.calendar.specs.declared.DateField.{DateField}
 use Rattle.calendar.specs.declared.DateField.the-variants.{Date, NotDigits, NoDate}
 use Rattle.lists.specs.Banks.{isBankList}
 use Rattle.lists.specs.Known.{isKnownList}
+use Rattle.lent.specs.Lent.{refusalNumber}
 use Rattle.lent.specs.declared.Refusal.the-variants as refusal
 use Rattle.files.specs.declared.Given.{Given}
 use Rattle.files.specs.declared.Given.the-variants.{Files, Refused}
@@ -60,6 +61,11 @@ isBanks s room = leb (length s) longest && (eqb (length s % 9) 0 && (leb (length
 -- `known`: not too long, and whole identifiers
 abbrev pub isKnownFile : List ℕ → Bool
 isKnownFile s = leb (length s) longest && isKnownList s
+
+-- the number of what the files give: 0, or the refusal's
+abbrev pub givenNumber : Given → ℕ
+givenNumber (Files day n) = 0
+givenNumber (Refused r) = refusalNumber r
 
 -- the day and how many banks there are; or refusal 1, 2 or 3, in this order
 unfoldable pub givenBy : List ℕ → List ℕ → List ℕ → ℕ → Given

@@ -2,3 +2,4 @@ pub mod Row
 pub mod ByKind
 pub mod Naming
 pub mod Small
+pub mod Faults

@@ -1,7 +1,10 @@
--- What 01 calls each answer: the number of a refusal, the field that is named, and the kind of its fault in 01's order.
+-- What 01 calls each answer: the number of a refusal, the field that is named, and the kind of its fault in 01's order; each in words.
 -- Assumes nothing.
 use Prim.Native.Nat.{ℕ}
-use Prim.Native.String.{String}
+use mathlib.Core.List.{List, [], _∷_}
+use lib.ListN.{getD}
+use Rattle.base.specs.Bytes.{ascii}
+use Rattle.findings.specs.declared.Kind.{Kind}
 use Rattle.findings.specs.declared.Answer.{Answer}
 use Rattle.findings.specs.declared.Answer.the-variants as answer
 use Rattle.lent.specs.Lent.{refusalNumber}
@@ -30,25 +33,52 @@ answerNumber (answer.CustomerId k) = kindNumber k
 answerNumber (answer.Address k) = kindNumber k
 answerNumber (answer.Owner k) = kindNumber k
 
--- the field that an answer names, in 01's words
-abbrev pub answerField : Answer → String
-answerField answer.Accepted = ""
-answerField (answer.Refused r) = ""
-answerField (answer.Type k) = "type"
-answerField (answer.MessageType k) = "message type"
-answerField (answer.DuplicateCode k) = "duplicate code"
-answerField (answer.Initiator k) = "initiator"
-answerField (answer.Identifier k) = "identifier"
-answerField (answer.Date k) = "date"
-answerField (answer.Number k) = "number"
-answerField (answer.Bank k) = "bank"
-answerField (answer.Account k) = "account"
-answerField (answer.DebitDate k) = "debit date"
-answerField (answer.Purpose k) = "purpose"
-answerField (answer.Name k) = "name"
-answerField (answer.Remark k) = "remark"
-answerField (answer.ItemNumber k) = "item number"
-answerField (answer.Amount k) = "amount"
-answerField (answer.CustomerId k) = "customer id"
-answerField (answer.Address k) = "address"
-answerField (answer.Owner k) = "account owner"
+-- the number of the field that an answer names: those of a head in their order, then those that only an item has; 0 where none is named
+abbrev pub fieldNumber : Answer → ℕ
+fieldNumber answer.Accepted = 0
+fieldNumber (answer.Refused r) = 0
+fieldNumber (answer.Type k) = 1
+fieldNumber (answer.MessageType k) = 2
+fieldNumber (answer.DuplicateCode k) = 3
+fieldNumber (answer.Initiator k) = 4
+fieldNumber (answer.Identifier k) = 5
+fieldNumber (answer.Date k) = 6
+fieldNumber (answer.Number k) = 7
+fieldNumber (answer.Bank k) = 8
+fieldNumber (answer.Account k) = 9
+fieldNumber (answer.DebitDate k) = 10
+fieldNumber (answer.Purpose k) = 11
+fieldNumber (answer.Name k) = 12
+fieldNumber (answer.Remark k) = 13
+fieldNumber (answer.ItemNumber k) = 14
+fieldNumber (answer.Amount k) = 15
+fieldNumber (answer.CustomerId k) = 16
+fieldNumber (answer.Address k) = 17
+fieldNumber (answer.Owner k) = 18
+
+-- the words for fields by their numbers, none for 0; after those that an answer names, three that none does (01, Records)
+unfoldable pub fieldWords : List (List ℕ)
+fieldWords =
+    []
+    ∷ ascii "type" ∷ ascii "message type" ∷ ascii "duplicate code" ∷ ascii "initiator" ∷ ascii "identifier" ∷ ascii "date"
+    ∷ ascii "number" ∷ ascii "bank" ∷ ascii "account" ∷ ascii "debit date" ∷ ascii "purpose" ∷ ascii "name" ∷ ascii "remark"
+    ∷ ascii "item number" ∷ ascii "amount" ∷ ascii "customer id" ∷ ascii "address" ∷ ascii "account owner"
+    ∷ ascii "credit date" ∷ ascii "item count" ∷ ascii "sum"
+    ∷ []
+
+-- the field that an answer names, in words
+abbrev pub answerField : Answer → List ℕ
+answerField a = getD fieldWords (fieldNumber a) []
+
+-- the words for the kinds of fault by their numbers, none for 0 (01, Calls and their answers); the last is the one condition that only docs/ has
+unfoldable pub kindWords : List (List ℕ)
+kindWords =
+    []
+    ∷ ascii "a letter that text may not hold" ∷ ascii "not the right mark" ∷ ascii "wrong form" ∷ ascii "not digits"
+    ∷ ascii "check digit" ∷ ascii "no date" ∷ ascii "outside the days" ∷ ascii "not listed" ∷ ascii "already known"
+    ∷ ascii "blank or zero" ∷ ascii "out of order" ∷ ascii "more than ten days after the date"
+    ∷ []
+
+-- a kind of fault, in words
+abbrev pub kindWord : Kind → List ℕ
+kindWord k = getD kindWords (kindNumber k) []

@@ -6,7 +6,7 @@ use Rattle.findings.specs.declared.Kind.{Kind}
 use Rattle.findings.specs.declared.Kind.the-variants.{Letter, Mark, Form, NotDigits, CheckDigit, NoDate}
 use Rattle.findings.specs.declared.Kind.the-variants.{OutsideDays, NotListed, Known, BlankOrZero, OutOfOrder, Other}
 use Rattle.findings.specs.declared.Finding.{Finding}
-use Rattle.findings.specs.declared.Finding.the-variants.{Fault}
+use Rattle.findings.specs.declared.Finding.the-variants.{Right, Fault}
 
 -- what one test finds, and then what is found further on
 abbrev pub unless : Bool → Kind → Finding → Finding
@@ -27,3 +27,8 @@ kindNumber Known = 9
 kindNumber BlankOrZero = 10
 kindNumber OutOfOrder = 11
 kindNumber Other = 12
+
+-- the number of what is found: 0 for nothing wrong, else that of the kind
+abbrev pub findingNumber : Finding → ℕ
+findingNumber Right = 0
+findingNumber (Fault k) = kindNumber k

@@ -2,3 +2,4 @@ pub mod Findings
 pub mod Codes
 pub mod Naming
 pub mod Answers
+pub mod Faults

@@ -1,4 +1,5 @@
--- Code 00 exactly when no fault of the whole message exists; then accepted and refused items number what the foot says, and their amounts make its sum.
+-- The message code is 00 exactly when the codes that it ranks are all 0; then accepted and refused items number what the foot says, and
+-- their amounts make its sum.
 -- Assumes nothing.
 use mathlib.Core.Path.{_≡_, refl, sym, ap, _∙_}
 use mathlib.Core.Bool.{Bool, true, false, cond, not, _||_, false≢true}
@@ -8,6 +9,7 @@ use native.Mathlib.Omega.{arith}
 use lib.ListN.{length}
 use lib.Dec.{eqb}
 use borrow.Author.Tests.{eqb-true, eqb-false}
+use Rattle.base.specs.Each.{Each}
 use Rattle.frame.specs.declared.Found.{Found}
 use Rattle.frame.specs.declared.Closing.{Closing}
 use Rattle.frame.specs.Records.{lengths, headOf, footOf, isBroken}
@@ -29,7 +31,7 @@ use Rattle.frame.specs.Verdict.{
   given,
   counted,
 }
-use Rattle.frame.specs.Faults.{Each, Faultless}
+use Rattle.frame.specs.Faults.{Codeless}
 use Rattle.frame.specs.Sound.{Sound}
 
 -- codes that are all 0
@@ -93,10 +95,10 @@ module _ (R : Rules) (m : List ℕ) where
       ∷ R .footCode (length fs) (total fs) (footOf lengths m)
       ∷ []
 
-  -- code 00 means no fault of the whole message
-  pub faultless : messageCode R m ≡ 0 → Faultless R m
+  -- code 00 means that all are 0
+  pub codeless : messageCode R m ≡ 0 → Codeless R m
   unfolding messageCode
-  faultless e =
+  codeless e =
       let z = first-zeros ranks e in
       let l = neither (R .headLetter (headOf lengths m)) (any (map (λ f. f .letter) fs)) (flag-off letters 36 (λ q. omega arith) (z .1 .0)) in
       record {
@@ -108,8 +110,8 @@ module _ (R : Rules) (m : List ℕ) where
         foot = z .1 .1 .1 .1 .0;
       }
 
-  -- and no fault means code 00
-  pub code-zero : Faultless R m → messageCode R m ≡ 0
+  -- and the other way
+  pub code-zero : Codeless R m → messageCode R m ≡ 0
   unfolding messageCode
   code-zero k =
       let l : letters ≡ false = ap (λ (b : Bool). b || any (map (λ f. f .letter) fs)) (k .head-letters) ∙ no-letter fs (k .item-letters) in
@@ -154,7 +156,7 @@ module _ (R : Rules) (ok : Sound R) (t m : List ℕ) where
       go : (o z : Bool) → eqb (messageCode R m) 0 ≡ z → v o z .refusal ≡ 0 → v o z .closing .code ≡ 0 → Totalled (v o z .closing)
       go true z q r c = absurd (omega arith)
       go false true q r c =
-          let k = faultless R m (eqb-true (messageCode R m) 0 q) in
+          let k = codeless R m (eqb-true (messageCode R m) 0 q) in
           let s = ok .foot-says (length (foundIn R m)) (total (foundIn R m)) (footOf lengths m) (k .foot) in
           record { count = all-items (foundIn R m) ∙ sym (s .0); sum = all-amounts (foundIn R m) ∙ sym (s .1) }
       go false false q r c = absurd (eqb-false (messageCode R m) 0 q c)

@@ -5,3 +5,4 @@ pub mod Whole
 pub mod Faults
 pub mod Places
 pub mod Empty
+pub mod Cut

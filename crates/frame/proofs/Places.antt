@@ -3,7 +3,7 @@
 use mathlib.Core.Path.{_≡_, refl, sym, ap, _∙_}
 use mathlib.Core.Bool.{Bool, true, false, cond, not, _&&_, false≢true}
 use mathlib.Core.List.{List, [], _∷_}
-use Prim.Native.Nat.{ℕ, zero, suc, _+_, _*_, _≤_, _<_}
+use Prim.Native.Nat.{ℕ, zero, suc, _+_, _-_, _*_, _≤_, _<_}
 use native.Mathlib.Nat.{zero-mul}
 use native.Mathlib.Omega.{arith}
 use lib.ListN.{length, getD, take, drop, length-drop}
@@ -13,9 +13,9 @@ use borrow.Author.Tests.{eq-eqb, ne-eqb, le-leb, lt-ltb, ltb-true, eqb-true, not
 use Rattle.base.proofs.Every.{both}
 use Rattle.frame.specs.Records.{Sizes, lengths, headEnd, itemEnd, footEnd, ended, isFoot, itemStands, footStands, headStands}
 use Rattle.frame.specs.Records.{itemsIn, restAfter, itemsOf, restOf, isBroken}
-use Rattle.frame.specs.Places.{place, beyond, laterAt, recordAt}
+use Rattle.frame.specs.Places.{place, beyond, footAt, laterAt, recordAt}
 use Rattle.frame.specs.declared.Record.the-variants.{Head, Item, Foot, Break, End}
-use Rattle.frame.proofs.Uncut.{ended-long}
+use Rattle.frame.proofs.Uncut.{ended-long, rest-no-item}
 
 all-three : (a b c : Bool) → a ≡ true → b ≡ true → c ≡ true → a && (b && c) ≡ true
 all-three a b c p q r = rw (p, q, r)
@@ -67,6 +67,12 @@ on-place k = omega arith
 off-place : (k : ℕ) → beyond (place k + footEnd) ≡ footEnd
 off-place k = omega arith
 
+-- a foot is all that is left
+foot-ends : (y : List ℕ) → footStands lengths y ≡ true → length y ≡ footEnd
+foot-ends y f =
+    let g = both (isFoot y) (ended (lengths .foot) y && eqb (length y) footEnd) f in
+    eqb-true (length y) footEnd (both (ended (lengths .foot) y) (eqb (length y) footEnd) (g .1) .1)
+
 module _ (m : List ℕ) where
   -- what follows the head
   abbrev body : List ℕ
@@ -86,14 +92,16 @@ module _ (m : List ℕ) where
       let g = both (ltb 0 n) f (h .1) in
       record { head = h .0; some = ltb-true 0 n (g .0); foot = g .1 }
 
-  -- the end stands a foot after a place, where the message ends
-  pub at-end : (k : ℕ) → place k + footEnd ≡ length m → recordAt m (place k + footEnd) ≡ End
+  -- where the foot stands at a place, the end stands after it
+  pub at-end : (k : ℕ) → footAt m (place k) ≡ true → recordAt m (place k + footEnd) ≡ End
   unfolding recordAt
-  at-end k h =
+  at-end k f =
       let p = place k + footEnd in
       let low = after-head k in
-      let in-message = le-leb p (length m) (omega arith) in
-      rw (ne-eqb p 0 (λ q. omega arith), le-leb headEnd p (omega arith), in-message, off-place k, eq-eqb p (length m) h)
+      let l = foot-ends (drop (place k) m) (both (ltb headEnd (place k)) (footStands lengths (drop (place k) m)) f .1) in
+      let in-message = le-leb p (length m) (omega (arith, length-drop (place k) m)) in
+      let back : p - footEnd ≡ place k = omega arith in
+      rw (ne-eqb p 0 (λ q. omega arith), le-leb headEnd p (omega arith), in-message, off-place k, back, f)
 
 -- a message whose head stands
 module _ (m : List ℕ) (e : headStands lengths m ≡ true) where
@@ -137,39 +145,55 @@ module _ (m : List ℕ) (e : headStands lengths m ≡ true) where
       let is = itemsIn lengths (length m) (body m) in
       rest-place lengths (length m) (body m) ∙ from-place (length is) ∙ ap (λ (l : List (List ℕ)). drop (place (length l)) m) (sym items-are)
 
-  -- without a break the foot stands after the items, and ends the message
-  pub at-foot : isBroken lengths m ≡ false → (recordAt m (place n) ≡ Foot (place n) (place n + footEnd)) × (place n + footEnd ≡ length m)
+  -- no item stands after them, and they lie in the message
+  no-item : itemStands lengths (drop (place n) m) ≡ false
+  no-item =
+      let l : length (body m) ≤ length m = omega (arith, length-drop headEnd m) in
+      sym (ap (itemStands lengths) rest-is) ∙ rest-no-item (length m) (body m) l
+
+  within : (k : ℕ) → k ≤ length (itemsIn lengths (length m) (body m)) → place k ≤ length m
+  within zero h = ended-long (lengths .head) m e
+  within (suc k) h =
+      let y = drop (k * itemEnd) (body m) in
+      let q = kth lengths (length m) (body m) k (omega arith) .stands in
+      let l = ended-long (lengths .item) y (both (not (isFoot y)) (ended (lengths .item) y) q .1) in
+      omega (arith, length-drop (k * itemEnd) (body m), length-drop headEnd m)
+
+  -- what stands after the items: the foot, or a break
+  at-rest : recordAt m (place n) ≡ cond (footAt m (place n)) (Foot (place n) (place n + footEnd)) Break
   unfolding laterAt
-  at-foot b =
-      let p = place n in
-      let y = drop p m in
+  at-rest = at-later n (rw items-are (within _ (omega arith))) ∙ rw no-item
+
+  -- without a break the foot stands after the items, with an item before it
+  pub foot-stands : isBroken lengths m ≡ false → footAt m (place n) ≡ true
+  foot-stands b =
       let u = unbroken m b in
       let some = u .some in
-      let f : footStands lengths y ≡ true = sym (ap (footStands lengths) rest-is) ∙ u .foot in
-      let f₁ = both (isFoot y) (ended (lengths .foot) y && eqb (length y) footEnd) f in
-      let f₂ = both (ended (lengths .foot) y) (eqb (length y) footEnd) (f₁ .1) in
-      let l : length y ≡ footEnd = eqb-true (length y) footEnd (f₂ .1) in
-      let stands : laterAt m p ≡ Foot p (p + footEnd) = rw (f₁ .0, lt-ltb headEnd p (omega arith), f₂ .0, eq-eqb (length y) footEnd l) in
-      (at-later n (omega (arith, length-drop p m)) ∙ stands, omega (arith, length-drop p m))
+      let f : footStands lengths (drop (place n) m) ≡ true = sym (ap (footStands lengths) rest-is) ∙ u .foot in
+      rw (lt-ltb headEnd (place n) (omega arith), f)
+
+  pub at-foot : isBroken lengths m ≡ false → recordAt m (place n) ≡ Foot (place n) (place n + footEnd)
+  at-foot b = at-rest ∙ rw (foot-stands b)
 
   -- with a break after the head, the walk stops after the items
-  pub at-break : isBroken lengths m ≡ true → place n ≤ length m → itemStands lengths (drop (place n) m) ≡ false → recordAt m (place n) ≡ Break
-  unfolding laterAt
-  at-break b h i = at-later n h ∙ rw i (go (ltb headEnd p) refl (footStands lengths (drop p m)) refl)
+  pub at-break : isBroken lengths m ≡ true → recordAt m (place n) ≡ Break
+  at-break b = at-rest ∙ go (footAt m (place n)) refl
     where
       p : ℕ
       p = place n
 
-      go : (a : Bool) → ltb headEnd p ≡ a → (f : Bool) → footStands lengths (drop p m) ≡ f → cond (a && f) (Foot p (p + footEnd)) Break ≡ Break
-      go false q f g = refl
-      go true q false g = refl
-      go true q true g = absurd (false≢true (sym (ap not stood) ∙ b))
+      go : (f : Bool) → footAt m p ≡ f → cond f (Foot p (p + footEnd)) Break ≡ Break
+      go false g = refl
+      go true g = absurd (false≢true (sym (ap not stood) ∙ b))
         where
+          both-are : (ltb headEnd p ≡ true) × (footStands lengths (drop p m) ≡ true)
+          both-are = both (ltb headEnd p) (footStands lengths (drop p m)) g
+
           some : ltb 0 n ≡ true
-          some = lt-ltb 0 n (omega (arith, ltb-true headEnd p q))
+          some = lt-ltb 0 n (omega (arith, ltb-true headEnd p (both-are .0)))
 
           foot : footStands lengths (restOf lengths m) ≡ true
-          foot = ap (footStands lengths) rest-is ∙ g
+          foot = ap (footStands lengths) rest-is ∙ both-are .1
 
           stood : headStands lengths m && (ltb 0 n && footStands lengths (restOf lengths m)) ≡ true
           stood = all-three (headStands lengths m) (ltb 0 n) (footStands lengths (restOf lengths m)) e some foot

@@ -1,21 +1,16 @@
--- When a message has no fault of the whole (01, Faults of the whole message).
+-- When the codes that the verdict ranks are all 0 (01, Faults of the whole message).
 -- Assumes nothing.
 use Prim.Native.Nat.{ℕ}
 use mathlib.Core.Path.{_≡_}
 use mathlib.Core.Bool.{false}
-use mathlib.Core.List.{List, [], _∷_}
+use mathlib.Core.List.{List}
 use lib.ListN.{length}
-use Rattle.frame.specs.declared.Found.{Found}
+use Rattle.base.specs.Each.{Each}
 use Rattle.frame.specs.Records.{lengths, headOf, footOf, isBroken}
 use Rattle.frame.specs.Verdict.{Rules, foundIn, total}
 
--- something holds of each item
-abbrev pub Each : (Found → Type 0) → List Found → Type 0
-Each P [] = Unit
-Each P (f ∷ fs) = P f × Each P fs
-
--- no break, no bad letter, and no fault in head, items or foot
-pub record Faultless (R : Rules) (m : List ℕ) : Type 0 where
+-- no break, no bad letter, and no code of the head, of an item for the whole message, or of the foot
+pub record Codeless (R : Rules) (m : List ℕ) : Type 0 where
   pub unbroken : isBroken lengths m ≡ false
   pub head-letters : R .headLetter (headOf lengths m) ≡ false
   pub item-letters : Each (λ f. f .letter ≡ false) (foundIn R m)

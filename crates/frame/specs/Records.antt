@@ -27,7 +27,11 @@ itemEnd = lengths .item + 2
 abbrev pub footEnd : ℕ
 footEnd = lengths .foot + 2
 
--- the first n bytes are a record with its ending, 0Dh 0Ah
+-- what every record ends with: 0Dh 0Ah
+abbrev pub ending : List ℕ
+ending = 0x0d ∷ 0x0a ∷ []
+
+-- the first n bytes are a record, and its ending stands after them
 unfoldable pub ended : ℕ → List ℕ → Bool
 ended n x = leb (n + 2) (length x) && (eqb (getD x n 0) 0x0d && eqb (getD x (n + 1) 0) 0x0a)
 

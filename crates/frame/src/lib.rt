@@ -4,7 +4,7 @@ ghost use mathlib.Core.Path.{_≡_};
 ghost use Prim.Native.Nat.{_≤_};
 ghost use lib.ListN.{length};
 ghost use Rattle.frame.specs.Records.{headEnd, idOf, ended, isFoot};
-ghost use Rattle.frame.specs.Places.{laterAt, recordAt};
+ghost use Rattle.frame.specs.Places.{footAt, laterAt, recordAt};
 
 // What is found in an item: a bad letter in its text, the code of its first Ü fault and of its first T fault (0 where it
 // has none), its amount, and whether its account is one of zeros.
@@ -127,25 +127,28 @@ pub const FOOT_ENDED: usize = FOOT + 2;
 // The most that a head tells.
 pub const MOST_TOLD: u32 = 0;
 
-// The record after the head that begins at a position; the foot ends the message.
+// The foot stands at a position, with some item before it, and ends the message.
+fn foot_at(message: &[u8], at: usize) -> bool
+    requires { ⌜ (headEnd ≤ at) × (at ≤ length (now message)) ⌝ }
+    ensures { λ r. ⌜ r ≡ footAt (now (message .entry)) at ⌝ }
+{
+    let x = &message[at..];
+    (at > HEAD_ENDED) & is_foot(x) & has_ending(x, FOOT) & (x.len() == FOOT_ENDED)
+}
+
+// The record after the head that begins at a position.
 fn later_at(message: &[u8], at: usize) -> Record
     requires { ⌜ (headEnd ≤ at) × (at ≤ length (now message)) ⌝ }
     ensures { λ r. ⌜ r ≡ laterAt (now (message .entry)) at ⌝ }
 {
+    if foot_at(message, at) {
+        return Record::Foot {
+            start: at,
+            next: at + FOOT_ENDED,
+        };
+    }
     let x = &message[at..];
     if is_foot(x) {
-        if at == HEAD_ENDED {
-            return Record::Break;
-        }
-        if x.len() != FOOT_ENDED {
-            return Record::Break;
-        }
-        if has_ending(x, FOOT) {
-            return Record::Foot {
-                start: at,
-                next: at + FOOT_ENDED,
-            };
-        }
         return Record::Break;
     }
     if has_ending(x, ITEM) {
@@ -181,10 +184,11 @@ pub fn record_at(message: &[u8], at: usize) -> Record
     if beyond == 0 {
         return later_at(message, at);
     }
-    if at == message.len() {
-        if beyond == FOOT_ENDED {
-            return Record::End;
-        }
+    if beyond != FOOT_ENDED {
+        return Record::Break;
+    }
+    if foot_at(message, at - FOOT_ENDED) {
+        return Record::End;
     }
     Record::Break
 }

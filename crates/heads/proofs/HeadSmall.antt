@@ -27,6 +27,6 @@ either : (b : Bool) (x y : HeadFound) → x .code < 100 → y .code < 100 → (c
 either true x y h k = h
 either false x y h k = k
 
-pub head-small : (e : ℕ) (banks known r : List ℕ) → (headFound e banks known r) .code < 100
+pub head-small : (e : ℕ) (isListed : ℕ → Bool) (known r : List ℕ) → (headFound e isListed known r) .code < 100
 unfolding headFound headRules
-head-small e banks known r = either (eqb (length r) 174) _ _ (first-lt (rules-small _)) (lit< tt)
+head-small e isListed known r = either (eqb (length r) 174) _ _ (first-lt (rules-small _)) (lit< tt)

@@ -19,9 +19,9 @@ use Rattle.checked.specs.Checked.{initiatorFound, compiledFound, debitFound, ba
 use Rattle.heads.specs.declared.HeadFound.{HeadFound}
 use Rattle.heads.specs.declared.HeadFindings.{HeadFindings}
 
--- 1.1.1: what is found in each field of a head, with E, the bank list and the known list
-unfoldable pub headFields : ℕ → List ℕ → List ℕ → List ℕ → HeadFindings
-headFields e banks known r =
+-- 1.1.1: what is found in each field of a head, with E, which banks are listed, and the known list
+unfoldable pub headFields : ℕ → (ℕ → Bool) → List ℕ → List ℕ → HeadFindings
+headFields e isListed known r =
     record {
       mark = markFound (ascii "01") (field 1 2 r);
       message = markFound (ascii "ATUTAL") (field 3 8 r);
@@ -30,7 +30,7 @@ headFields e banks known r =
       identifier = identifierFound known (field 10 34 r);
       date = compiledFound e (field 23 30 r);
       number = numberFound 4 (field 31 34 r);
-      bank = bankFound banks (field 35 42 r);
+      bank = bankFound isListed (field 35 42 r);
       account = accountFound (accountOf (field 43 58 r));
       debit = debitFound e (numberOf (field 23 30 r)) (field 59 66 r);
       purpose = purposeFound (field 67 69 r);
@@ -54,14 +54,14 @@ headRulesOf f =
     ∷ rule named.Name (always (Ü 43)) (f .name)
     ∷ []
 
-unfoldable pub headRules : ℕ → List ℕ → List ℕ → List ℕ → List Rule
-headRules e banks known r = headRulesOf (headFields e banks known r)
+unfoldable pub headRules : ℕ → (ℕ → Bool) → List ℕ → List ℕ → List Rule
+headRules e isListed known r = headRulesOf (headFields e isListed known r)
 
 -- what is found in the fields of bytes of any length: nothing where that isn't a head's
-unfoldable pub headFindings : ℕ → List ℕ → List ℕ → List ℕ → HeadFindings
-headFindings e banks known r =
+unfoldable pub headFindings : ℕ → (ℕ → Bool) → List ℕ → List ℕ → HeadFindings
+headFindings e isListed known r =
     cond (eqb (length r) (lengths .head))
-    (headFields e banks known r)
+    (headFields e isListed known r)
     (record {
       mark = Right;
       message = Right;
@@ -82,8 +82,8 @@ abbrev pub headLetter : List ℕ → Bool
 headLetter r = not (isText (field 70 174 r))
 
 -- what is found in a head; bytes of another length are a break
-unfoldable pub headFound : ℕ → List ℕ → List ℕ → List ℕ → HeadFound
-headFound e banks known r =
+unfoldable pub headFound : ℕ → (ℕ → Bool) → List ℕ → List ℕ → HeadFound
+headFound e isListed known r =
     cond (eqb (length r) (lengths .head))
-    (record { letter = headLetter r; code = firstWhole (headRules e banks known r) })
+    (record { letter = headLetter r; code = firstWhole (headRules e isListed known r) })
     (record { letter = false; code = 26 })

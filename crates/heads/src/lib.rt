@@ -3,6 +3,7 @@ ghost use mathlib.Core.Path.{_≡_};
 ghost use lib.ListN.{length};
 ghost use Rattle.base.specs.Bytes.{ascii, field, same};
 ghost use Rattle.digits.specs.Digits.{numberOf};
+ghost use Rattle.lists.specs.Banks.{foundIn};
 ghost use Rattle.findings.specs.Codes.{firstWhole};
 ghost use Rattle.frame.specs.Records.{lengths};
 ghost use Rattle.fields.specs.Fields.{identifierFound};
@@ -66,7 +67,7 @@ fn debit_in(r: &[u8], e: u32) -> Finding
 // What is found in the fields of a whole head.
 fn fields_in(r: &[u8], e: u32, banks: &[u32], known: &[u8]) -> HeadFindings
     requires { ⌜ length (now r) ≡ lengths .head ⌝ }
-    ensures { λ f. ⌜ f ≡ headFields e (now (banks .entry)) (now (known .entry)) (now (r .entry)) ⌝ }
+    ensures { λ f. ⌜ f ≡ headFields e (foundIn (now (banks .entry))) (now (known .entry)) (now (r .entry)) ⌝ }
 {
     let b = r[8];
     HeadFindings {
@@ -87,7 +88,7 @@ fn fields_in(r: &[u8], e: u32, banks: &[u32], known: &[u8]) -> HeadFindings
 
 // What is found in the fields of a head, with E, the bank list and the known list; nothing in bytes of another length.
 pub fn all_findings(r: &[u8], e: u32, banks: &[u32], known: &[u8]) -> HeadFindings
-    ensures { λ f. ⌜ f ≡ headFindings e (now (banks .entry)) (now (known .entry)) (now (r .entry)) ⌝ }
+    ensures { λ f. ⌜ f ≡ headFindings e (foundIn (now (banks .entry))) (now (known .entry)) (now (r .entry)) ⌝ }
 {
     if r.len() == frame::HEAD {
         return fields_in(r, e, banks, known);
@@ -140,7 +141,7 @@ fn code_of(f: HeadFindings) -> u8
 
 // What is found in a head, with E, the bank list and the known list; bytes of another length are a break.
 pub fn found_in(r: &[u8], e: u32, banks: &[u32], known: &[u8]) -> HeadFound
-    ensures { λ x. ⌜ x ≡ headFound e (now (banks .entry)) (now (known .entry)) (now (r .entry)) ⌝ }
+    ensures { λ x. ⌜ x ≡ headFound e (foundIn (now (banks .entry))) (now (known .entry)) (now (r .entry)) ⌝ }
 {
     if r.len() != frame::HEAD {
         return HeadFound {

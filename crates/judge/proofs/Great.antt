@@ -1,5 +1,6 @@
 -- The great theorems: a message in any pieces is judged as the uncut message; judging at once is opening, one piece and closing;
--- with code 00 the numbers are those of the foot, and code 00 is given exactly when no fault of the whole message exists.
+-- with code 00 the numbers are those of the foot, and code 00 is given exactly when no fault of the whole message exists. For a bank list
+-- that passes, the rules ask of a bank that it is an element.
 -- Assumes nothing.
 use mathlib.Core.Path.{_≡_, refl, sym, ap, _∙_}
 use mathlib.Core.Bool.{Bool, true, false, cond, false≢true}
@@ -12,6 +13,8 @@ use borrow.Author.Tests.{leb-true, eq-eqb, eqb-true}
 use Rattle.base.specs.Bytes.{field}
 use Rattle.digits.specs.Digits.{numberOf}
 use Rattle.calendar.specs.Calendar.{isDate}
+use Rattle.lists.specs.Banks.{member, isBankList}
+use Rattle.lists.specs.Known.{isKnownList}
 use Rattle.lent.specs.Lent.{Lists, Lent, listRefused, by}
 use Rattle.lent.specs.declared.Refusal.{Refusal}
 use Rattle.lent.specs.declared.Refusal.the-variants as refusal
@@ -20,32 +23,17 @@ use Rattle.lent.specs.declared.Outcome.the-variants.{Done, Refused}
 use Rattle.frame.specs.Records.{lengths, footOf}
 use Rattle.frame.specs.Verdict.{Rules, Verdict, foundIn, messageCode, identifier, overflows, verdict, tableAfter, blank, overflow, given, counted}
 use Rattle.frame.specs.Machine.{State, fresh, run, closing, joined}
-use Rattle.frame.specs.Faults.{Faultless}
 use Rattle.frame.proofs.Pieces.{run-append}
 use Rattle.frame.proofs.Whole.{uncut}
-use Rattle.frame.proofs.Faults.{faultless, code-zero, totals as foot-totals}
-use Rattle.atutal.specs.Codes.{rules}
+use Rattle.frame.proofs.Faults.{totals as foot-totals}
+use Rattle.atutal.specs.Codes.{rules, memberRules}
+use Rattle.atutal.specs.Faultless.{Faultless}
 use Rattle.atutal.proofs.Instance.{sound}
+use Rattle.atutal.proofs.Listed.{by-membership}
+use Rattle.atutal.proofs.Faultless.{faultless, faultless-code}
 use Rattle.judge.specs.declared.Closed.{Closed}
-use Rattle.judge.specs.Session.{
-  most,
-  stateOf,
-  sessionOf,
-  inRange,
-  give,
-  openRefused,
-  opened,
-  pieceRefused,
-  taken,
-  tableTaken,
-  outcomeOf,
-  closedAs,
-  closedOf,
-  refusedAs,
-  wholeRefused,
-  judgedOf,
-  tableJudged,
-}
+use Rattle.judge.specs.Session.{most, sessionOf, give, openRefused, opened, pieceRefused, taken, tableTaken}
+use Rattle.judge.specs.Session.{outcomeOf, closedAs, closedOf, wholeRefused, judgedOf, tableJudged}
 use Rattle.judge.specs.Feeding.{fed, judgedFrom, atOnce, tableAtOnce}
 use Rattle.judge.proofs.Ranges.{Kept, kept-run, kept-fresh, session-in-range, session-state, open-passes}
 
@@ -72,10 +60,31 @@ module _ (e : ℕ) (d : isDate e ≡ true) (n : ℕ) (s : State) (k : Kept n s) 
     unfolding tableTaken
     table-is = rw (piece-is (l .lists), q, session-state e n s k, ← i)
 
+abbrev isDone : Outcome → Bool
+isDone Done = true
+isDone (Refused r) = false
+
+-- a refusal isn't the outcome where nothing is refused
+refused-done : {r : Refusal} → Refused r ≡ Done → ⊥
+refused-done e = false≢true (ap isDone e)
+
 -- what is lent passes: the day is one, and no list is refused
 pub record Passing (l : Lent) : Type 0 where
   pub day : isDate (l .day) ≡ true
   pub lists : listRefused (l .lists) ≡ Done
+
+-- a bank list that isn't refused is one
+list-passes : (l : Lists) → listRefused l ≡ Done → isBankList (l .banks) ≡ true
+unfolding listRefused
+list-passes l q = go (isBankList (l .banks)) (isKnownList (l .known)) q
+  where
+    go : (b k : Bool) → cond b (cond k Done (Refused refusal.KnownList)) (Refused refusal.BankList) ≡ Done → b ≡ true
+    go true k e = refl
+    go false k e = absurd (refused-done e)
+
+-- so a bank is listed where it is an element of the list
+pub listed-is-member : (l : Lent) → Passing l → rules l ≡ memberRules l
+listed-is-member l g = by-membership l (list-passes (l .lists) (g .lists))
 
 module _ (l : Lent) (g : Passing l) where
   abbrev e : ℕ
@@ -171,13 +180,9 @@ module _ (l : Lent) (t m : List ℕ) where
 done-none : (v : Verdict) → outcomeOf v ≡ Done → v .refusal ≡ 0
 done-none v e = go (eqb (v .refusal) 0) refl e
   where
-    isDone : Outcome → Bool
-    isDone Done = true
-    isDone (Refused r) = false
-
     go : (b : Bool) → eqb (v .refusal) 0 ≡ b → cond b Done (Refused refusal.Overflow) ≡ Done → v .refusal ≡ 0
     go true q e = eqb-true (v .refusal) 0 q
-    go false q e = absurd (false≢true (ap isDone e))
+    go false q e = absurd (refused-done e)
 
 -- where nothing is refused, the code is the message's
 verdict-code : (R : Rules) (t m : List ℕ) → verdict R t m .refusal ≡ 0 → verdict R t m .closing .code ≡ messageCode R m
@@ -218,9 +223,15 @@ module _ (l : Lent) (t : List ℕ) (ps : List (List ℕ)) (g : Passing l) (h : l
       rw says (f .count, f .sum)
 
   -- code 00 exactly when there is no fault of the whole message
-  pub exactly : c .outcome ≡ Done → (c .closing .code ≡ 0 → Faultless (rules l) (joined ps)) × (Faultless (rules l) (joined ps) → c .closing .code ≡ 0)
+  abbrev None : Type 0
+  None = Faultless (l .day) (λ x. member x (l .lists .banks)) (l .lists .known) (joined ps)
+
+  pub exactly : c .outcome ≡ Done → (c .closing .code ≡ 0 → None) × (None → c .closing .code ≡ 0)
   exactly o =
-      let R = rules l in
+      let M = memberRules l in
       let m = joined ps in
-      let q : c .closing .code ≡ messageCode R m = code-is ∙ verdict-code R t m (unrefused o) in
-      (λ z. faultless R m (sym q ∙ z), λ f. q ∙ code-zero R m f)
+      let r : messageCode (rules l) m ≡ messageCode M m = ap (λ (R : Rules). messageCode R m) (listed-is-member l g) in
+      let q : c .closing .code ≡ messageCode M m = code-is ∙ verdict-code (rules l) t m (unrefused o) ∙ r in (
+        λ z. faultless (l .day) (λ x. member x (l .lists .banks)) (l .lists .known) m (sym q ∙ z),
+        λ f. q ∙ faultless-code (l .day) (λ x. member x (l .lists .banks)) (l .lists .known) m f,
+      )

@@ -4,3 +4,4 @@ pub mod Valid
 pub mod Turn
 pub mod Ranges
 pub mod Great
+pub mod Refusals

@@ -9,6 +9,7 @@ use lib.Dec.{leb}
 use lib.ListN.{length, take, set}
 use borrow.Author.Tests.{leb-true, eq-eqb, ne-eqb, le-leb, lt-leb, lt-ltb, le-ltb}
 use Rattle.base.proofs.Every.{both}
+use Rattle.lists.specs.Banks.{foundIn}
 use Rattle.lent.specs.Lent.{Lent}
 use Rattle.frame.specs.declared.Found.{Found}
 use Rattle.frame.specs.declared.Totals.{Totals}
@@ -103,7 +104,7 @@ module _ (s : Tally) where
 
 -- a head is read
 pub head-read : (l : Lent) (r : List ℕ) (s : Tally) (f : HeadFound) (i : List ℕ)
-    → f ≡ headFound (l .day) (l .lists .banks) (l .lists .known) r → i ≡ idOf r
+    → f ≡ headFound (l .day) (foundIn (l .lists .banks)) (l .lists .known) r → i ≡ idOf r
     → _≡_ {A = Tally} (record {
       phase = 1;
       told = 0;
@@ -159,13 +160,14 @@ module _ (s : Tally) (r : List ℕ) where
 
 -- an item is read
 module _ (e : ℕ) (banks : List ℕ) (s n : Tally) (t r : List ℕ) where
-  pub item-read : items s < length t → (f : Found) → f ≡ itemFound banks (items s + 1) r → n ≡ itemTally s f
+  pub item-read : items s < length t → (f : Found) → f ≡ itemFound (foundIn banks) (items s + 1) r → n ≡ itemTally s f
       → ItemRead e banks s t r n (set t (items s) (f .code))
   unfolding itemRead itemCounted
   item-read h f p q =
       record {
         reads = λ l d b.
-            let g : f ≡ itemFound (l .lists .banks) (items s + 1) r = p ∙ ap (λ (bs : List ℕ). itemFound bs (items s + 1) r) (sym b) in
+            let g : f ≡ itemFound (foundIn (l .lists .banks)) (items s + 1) r =
+            p ∙ ap (λ (bs : List ℕ). itemFound (foundIn bs) (items s + 1) r) (sym b) in
             record { tally = rw (lt-ltb (items s) (length t) h, ← g) q; bytes = rw (lt-ltb (items s) (length t) h, ← g) };
       }
 
@@ -177,9 +179,9 @@ module _ (e : ℕ) (banks : List ℕ) (s n : Tally) (t r : List ℕ) where
       }
 
 -- what is found in an item can be counted, where the tally is ready
-pub countable : (s : Tally) (t banks : List ℕ) (k : ℕ) (r : List ℕ) (f : Found) → Ready s t → f ≡ itemFound banks k r → Countable s f
+pub countable : (s : Tally) (t banks : List ℕ) (k : ℕ) (r : List ℕ) (f : Found) → Ready s t → f ≡ itemFound (foundIn banks) k r → Countable s f
 countable s t banks k r f y e =
-    let a : f .amount < 10 ^ 10 = rw e (small banks k r .amount) in
+    let a : f .amount < 10 ^ 10 = rw e (small (foundIn banks) k r .amount) in
     record {
       accepted = omega (arith, y .items, y .most);
       refused = omega (arith, y .items, y .most);

@@ -1,3 +1,4 @@
 pub mod Session
 pub mod Inner
 pub mod Feeding
+pub mod Refusals

@@ -1,7 +1,7 @@
 -- Fields shown in UTF-8: the bytes that a byte is shown by, and a field's bytes one after the other.
 -- Assumes nothing.
 use mathlib.Core.Path.{_≡_, refl, sym, ap, _∙_}
-use mathlib.Core.Bool.{Bool, true, false, cond, _&&_}
+use mathlib.Core.Bool.{Bool, true, false, cond, not, _&&_}
 use mathlib.Core.List.{List, [], _∷_, _++_, append-assoc, append-nil}
 use Prim.Native.Nat.{ℕ, _+_, _-_, _/_, _%_, _≤_, _<_}
 use native.Mathlib.Nat.{add-zero}
@@ -10,13 +10,13 @@ use native.Mathlib.Omega.{arith}
 use lib.Dec.{leb, ltb, eqb}
 use lib.ListN.{length, getD, set, take, drop, length-append, take-append-drop, drop-of-length-le}
 use lib.Seq.{take-suc, take-all, drop-cons}
-use borrow.Author.Tests.{le-leb, lt-leb, lt-ltb, le-ltb, leb-true, leb-false, ltb-true}
-use Rattle.base.specs.Bytes.{over}
+use borrow.Author.Tests.{le-leb, lt-leb, lt-ltb, le-ltb, leb-true, leb-false, ltb-true, ne-eqb, not-true}
+use Rattle.base.specs.Bytes.{every, over}
 use Rattle.base.proofs.Every.{both as both-true}
 use Rattle.base.proofs.Over.{over-none, over-set}
-use Rattle.text.specs.Text.{plain}
+use Rattle.text.specs.Text.{plain, withBytes}
 use Rattle.base.specs.Put.{Written, Put}
-use Rattle.letters.specs.Letters.{Letter, hungarian, numberIn, unicode, hex, mark, utf8, isMarked, shownByte, shown}
+use Rattle.letters.specs.Letters.{Letter, hungarian, numberIn, unicode, hex, mark, utf8, isMarked, own, shownByte, shown}
 use Rattle.base.proofs.Put.{both, kept, room, written, unwritten}
 
 -- one byte is put
@@ -218,3 +218,39 @@ module _ {x s y : List ℕ} {i at : ℕ} (p : Putting x s y i at) where
 
   pub put-ends : length s ≤ i → Written (shown s) x at y
   put-ends h = written (p .fits) (rw (take-all i s h) at (p .puts))
+
+-- a byte that is shown as itself, and a field of such bytes
+own-byte : (b : ℕ) → own b ≡ true → shownByte b ≡ b ∷ []
+unfolding shownByte unicode
+own-byte b e =
+    let o = both-true (plain b) (not (eqb b 0x5c)) e in
+    let p = both-true (leb 0x20 b) (leb b 0x7e) (o .0) in
+    let low = leb-true 0x20 b (p .0) in
+    let high = leb-true b 0x7e (p .1) in
+    rw (p .0, p .1, ne-eqb b 0 (λ z. omega arith), not-true (eqb b 0x5c) (o .1), lt-ltb b 0x80 (omega arith))
+
+own-shown : (s : List ℕ) → every own s ≡ true → shown s ≡ s
+own-shown [] e = refl
+own-shown (b ∷ bs) e =
+    let o = both-true (own b) (every own bs) e in
+    rw (own-byte b (o .0), own-shown bs (o .1))
+
+-- a field of such bytes is put as it is, or doesn't fit
+module _ (s x : List ℕ) {o : Bool} (e : o ≡ every own s) (q : o ≡ true) {r : Bool} {y : List ℕ}
+    (p : (r ≡ leb (length s) (length x)) × (y ≡ withBytes x s)) where
+  same : shown s ≡ s
+  same = own-shown s (sym e ∙ q)
+
+  pub own-put : r ≡ true → Written (shown s) x (length s) y
+  unfolding withBytes
+  own-put t =
+      let l : leb (length s) (length x) ≡ true = sym (p .0) ∙ t in
+      let z : y ≡ over x 0 s = simp l at (p .1) in
+      rw same (record { count = simp l; bytes = simp l z })
+
+  pub own-long : r ≡ false → Written (shown s) x 0 y
+  unfolding withBytes
+  own-long t =
+      let l : leb (length s) (length x) ≡ false = sym (p .0) ∙ t in
+      let z : y ≡ x = simp l at (p .1) in
+      rw same (record { count = simp l; bytes = simp l z })

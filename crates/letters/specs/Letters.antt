@@ -1,7 +1,7 @@
 -- How a field of a message is shown in UTF-8: the letters of code page 852 that are text (01, fault 2), and a mark for any other byte.
 -- Assumes nothing.
 use Prim.Native.Nat.{ℕ, _+_, _/_, _%_}
-use mathlib.Core.Bool.{Bool, cond, _||_}
+use mathlib.Core.Bool.{Bool, cond, not, _&&_, _||_}
 use mathlib.Core.List.{List, [], _∷_, _++_}
 use lib.Dec.{eqb, ltb}
 use Rattle.text.specs.Text.{plain}
@@ -61,6 +61,10 @@ mark b = 0x5c ∷ 0x78 ∷ hex (b / 16) ∷ hex (b % 16) ∷ []
 -- a byte has a mark where it is no text; so has the backslash, so that each backslash that is shown begins a mark
 abbrev pub isMarked : ℕ → Bool
 isMarked b = eqb (unicode b) 0 || eqb b 0x5c
+
+-- a byte that is shown as itself: 20h to 7Eh without the backslash
+abbrev pub own : ℕ → Bool
+own b = plain b && not (eqb b 0x5c)
 
 -- how a byte is shown
 unfoldable pub shownByte : ℕ → List ℕ

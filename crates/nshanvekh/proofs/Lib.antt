@@ -3,3 +3,4 @@ pub mod Tells
 pub mod Sessions
 pub mod Messages
 pub mod ByPieces
+pub mod Refusals

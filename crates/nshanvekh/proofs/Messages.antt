@@ -12,14 +12,13 @@ use Rattle.lent.specs.Lent.{Lent, outcomeNumber}
 use Rattle.judge.specs.declared.Judged.{Judged}
 use Rattle.judge.specs.Session.{JudgedAs}
 use Rattle.status.specs.declared.reply.Answer.{Answer}
-use Rattle.status.specs.Reply.{Replied}
+use Rattle.status.specs.Reply.{replyNumber, Replied}
 use Rattle.reading.specs.declared.Read.{Read}
 use Rattle.reading.specs.Reading.{ReadAs}
 use Rattle.nshanvekh.specs.Session.{closingNumbers, Told}
 use Rattle.nshanvekh.specs.Message.{
   sizedBoth,
   JudgedNumbers,
-  replyNumber,
   replyNumbers,
   particularsOf,
   ReplyTold,

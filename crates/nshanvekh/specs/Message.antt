@@ -5,13 +5,13 @@ use Prim.Native.Nat.{ℕ}
 use mathlib.Core.Path.{_≡_}
 use mathlib.Core.Bool.{Bool, cond, _&&_}
 use mathlib.Core.List.{List, [], _∷_}
-use Rattle.lent.specs.Lent.{Lent, refusalNumber, outcomeNumber}
+use Rattle.lent.specs.Lent.{Lent, outcomeNumber}
 use Rattle.judge.specs.Session.{judgedOf, tableJudged}
 use Rattle.frame.specs.declared.Status.{Status}
 use Rattle.status.specs.declared.reply.Particulars.{Particulars}
 use Rattle.status.specs.declared.reply.Answer.{Answer}
 use Rattle.status.specs.declared.reply.Answer.the-variants.{Written, Refused}
-use Rattle.status.specs.Reply.{answer as answerOf, output}
+use Rattle.status.specs.Reply.{replyNumber, answer as answerOf, output}
 use Rattle.reading.specs.Reading.{readOf, tableRead}
 use Rattle.nshanvekh.specs.Session.{sized, wrongSize, ifDone, closingNumbers}
 
@@ -26,11 +26,7 @@ pub record JudgedNumbers (m : List ℕ) (l : Lent) (t ns id : List ℕ) (r : ℕ
   pub numbers : ns′ ≡ ifDone r (closingNumbers (judgedOf l t m .closing)) ns
   pub identifier : id′ ≡ ifDone r (judgedOf l t m .closing .id) id
 
--- the number of a reply's answer, and the length that is told
-abbrev pub replyNumber : Answer → ℕ
-replyNumber (Written n) = 0
-replyNumber (Refused r) = refusalNumber r
-
+-- the length that a reply's answer tells
 abbrev pub replyNumbers : Answer → List ℕ → List ℕ
 replyNumbers (Written n) ns = n ∷ []
 replyNumbers (Refused r) ns = ns

@@ -4,3 +4,4 @@ pub mod Parts
 pub mod RecordsRead
 pub mod MessageRead
 pub mod ReadBack
+pub mod Refusals

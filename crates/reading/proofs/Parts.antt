@@ -12,8 +12,7 @@ use lib.Seq.{take-at, drop-at, drop-drop, getD-take, getD-drop}
 use borrow.Author.Tests.{le-leb}
 use Rattle.base.proofs.Every.{both}
 use Rattle.digits.specs.Digits.{digit, isDigits}
-use Rattle.frame.specs.Records.{ended}
-use Rattle.status.specs.Records.{ending}
+use Rattle.frame.specs.Records.{ending, ended}
 
 -- bytes, and how many they are
 pub record Part : Type 0 where

@@ -17,7 +17,7 @@ use Rattle.frame.specs.declared.Found.{Found}
 use Rattle.frame.specs.declared.Closing.{Closing}
 use Rattle.frame.specs.Records.{lengths, headOf, headStands, itemsOf}
 use Rattle.frame.specs.Verdict.{Rules, blank, counted, accepted, refused, foundIn, messageCode, identifier, overflows}
-use Rattle.frame.proofs.Faults.{faultless, all-items}
+use Rattle.frame.proofs.Faults.{codeless, all-items}
 use Rattle.frame.proofs.Counting.{findings-length}
 use Rattle.atutal.specs.Codes.{rules}
 use Rattle.lent.specs.declared.Outcome.the-variants as outcome
@@ -65,7 +65,7 @@ module _ (l : Lent) (m : List ℕ) (p : Particulars) where
   -- with code 00 there is an item
   some-item : messageCode R m ≡ 0 → 0 < length fs
   some-item z =
-      let a = not-false _ (faultless R m z .unbroken) in
+      let a = not-false _ (codeless R m z .unbroken) in
       let b = both (headStands lengths m) _ a in
       let c = both (ltb 0 (length (itemsOf lengths m))) _ (b .1) in
       omega (arith, ltb-true 0 (length (itemsOf lengths m)) (c .0), findings-length R (R .tells (headOf lengths m)) 1 (itemsOf lengths m))

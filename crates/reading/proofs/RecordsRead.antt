@@ -13,7 +13,8 @@ use Rattle.base.specs.Bytes.{ascii, field}
 use Rattle.digits.specs.Digits.{isDigits, numberOf, figures}
 use Rattle.digits.proofs.Figures.{figures-length, figures-digits, read-back}
 use Rattle.frame.specs.declared.Status.{Status}
-use Rattle.status.specs.Records.{headRecord, reference, footRecord, ending, isAddress}
+use Rattle.frame.specs.Records.{ending}
+use Rattle.status.specs.Records.{headRecord, reference, footRecord, isAddress}
 use Rattle.fields.specs.Fields.{isDuplicate}
 use Rattle.status.specs.Writing.{Writable}
 use Rattle.reading.specs.Reading.{headRight, referenceRight, footRight}

@@ -1,3 +1,4 @@
 pub mod Names
 pub mod Single
 pub mod Numbers
+pub mod Refusals

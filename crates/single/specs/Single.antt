@@ -1,12 +1,13 @@
 -- The answer on a single head or item (01, Calls and their answers).
 -- Assumes nothing.
 use Prim.Native.Nat.{ℕ}
-use mathlib.Core.Bool.{cond}
+use mathlib.Core.Bool.{Bool, cond}
 use mathlib.Core.List.{List, [], _∷_, _++_}
 use lib.ListN.{length}
 use lib.Dec.{eqb}
 use Rattle.base.specs.Bytes.{field}
 use Rattle.calendar.specs.Calendar.{isDate}
+use Rattle.lists.specs.Banks.{foundIn}
 use Rattle.lent.specs.Lent.{Lent, listRefused, by}
 use Rattle.frame.specs.Records.{lengths}
 use Rattle.findings.specs.declared.Kind.{Kind}
@@ -37,11 +38,11 @@ itemTexts r =
     ∷ []
 
 -- a bad letter comes first, then the fields in order
-unfoldable pub headAnswer : ℕ → List ℕ → List ℕ → List ℕ → Answer
-headAnswer e banks known r = firstNamed (headTexts r ++ headRules e banks known r)
+unfoldable pub headAnswer : ℕ → (ℕ → Bool) → List ℕ → List ℕ → Answer
+headAnswer e isListed known r = firstNamed (headTexts r ++ headRules e isListed known r)
 
-unfoldable pub itemAnswer : List ℕ → ℕ → List ℕ → Answer
-itemAnswer banks k r = firstNamed (itemTexts r ++ itemRules banks k r)
+unfoldable pub itemAnswer : (ℕ → Bool) → ℕ → List ℕ → Answer
+itemAnswer isListed k r = firstNamed (itemTexts r ++ itemRules isListed k r)
 
 -- the answer: refusals 1, 2, 3 and 10 in this order; its length tells a head from an item
 unfoldable pub singleAnswer : Lent → ℕ → List ℕ → Answer
@@ -49,7 +50,7 @@ singleAnswer l k r =
     cond (isDate (l .day))
     (by (listRefused (l .lists))
     (cond (eqb (length r) (lengths .head))
-    (headAnswer (l .day) (l .lists .banks) (l .lists .known) r)
-    (cond (eqb (length r) (lengths .item)) (itemAnswer (l .lists .banks) k r) (named.Refused Malformed)))
+    (headAnswer (l .day) (foundIn (l .lists .banks)) (l .lists .known) r)
+    (cond (eqb (length r) (lengths .item)) (itemAnswer (foundIn (l .lists .banks)) k r) (named.Refused Malformed)))
     named.Refused)
     (named.Refused NotADay)

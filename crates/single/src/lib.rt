@@ -2,6 +2,7 @@
 ghost use mathlib.Core.Path.{_≡_};
 ghost use Prim.Native.Nat.{_+_, _*_, _≤_};
 ghost use lib.ListN.{length};
+ghost use Rattle.lists.specs.Banks.{foundIn};
 ghost use Rattle.lent.specs.Lent.{lent};
 ghost use Rattle.frame.specs.Records.{lengths};
 ghost use Rattle.findings.specs.Findings.{kindNumber};
@@ -161,7 +162,7 @@ fn item_letters(r: &[u8], other: Answer) -> Answer
 // The answer on a whole head: a bad letter first, then the fields in order.
 fn head_alone(r: &[u8], e: u32, banks: &[u32], known: &[u8]) -> Answer
     requires { ⌜ length (now r) ≡ lengths .head ⌝ }
-    ensures { λ a. ⌜ a ≡ headAnswer e (now (banks .entry)) (now (known .entry)) (now (r .entry)) ⌝ }
+    ensures { λ a. ⌜ a ≡ headAnswer e (foundIn (now (banks .entry))) (now (known .entry)) (now (r .entry)) ⌝ }
 {
     head_letters(r, head_named(heads::all_findings(r, e, banks, known)))
 }
@@ -169,7 +170,7 @@ fn head_alone(r: &[u8], e: u32, banks: &[u32], known: &[u8]) -> Answer
 // The answer on a whole item at place k: a bad letter first, then the fields in order.
 fn item_alone(r: &[u8], k: u64, banks: &[u32]) -> Answer
     requires { ⌜ length (now r) ≡ lengths .item ⌝ }
-    ensures { λ a. ⌜ a ≡ itemAnswer (now (banks .entry)) k (now (r .entry)) ⌝ }
+    ensures { λ a. ⌜ a ≡ itemAnswer (foundIn (now (banks .entry))) k (now (r .entry)) ⌝ }
 {
     item_letters(r, item_named(atutal::item::all_findings(r, k, banks)))
 }

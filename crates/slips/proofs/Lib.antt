@@ -1,1 +1,4 @@
+pub mod Fed
+pub mod Short
+pub mod Told
 pub mod Whole

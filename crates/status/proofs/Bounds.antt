@@ -1,7 +1,7 @@
 -- The numbers of a verdict fit the fields of a STATUS, and each item counted has its code.
 -- Assumes nothing.
 use mathlib.Core.Path.{_≡_, refl, sym, _∙_}
-use mathlib.Core.Bool.{Bool, true, false, cond, not}
+use mathlib.Core.Bool.{Bool, true, false, cond}
 use mathlib.Core.List.{List, [], _∷_, _++_, map}
 use Prim.Native.Nat.{ℕ, zero, suc, _+_, _/_, _^_, _≤_, _<_}
 use native.Mathlib.Omega.{arith}
@@ -16,15 +16,13 @@ use Rattle.lent.specs.Lent.{Lent}
 use Rattle.frame.specs.declared.Found.{Found}
 use Rattle.frame.specs.declared.Tally.{Tally}
 use Rattle.frame.specs.declared.Closing.{Closing}
-use Rattle.frame.specs.Records.{lengths, headEnd, itemEnd, noId, itemStands, isFoot, ended, itemsIn, headOf, itemsOf, headStands}
+use Rattle.frame.specs.Records.{lengths, noId, headOf, itemsOf}
 use Rattle.frame.specs.Verdict.{Rules, blank, overflow, given, counted, findings, foundIn, messageCode, identifier, overflows, verdict, tableAfter}
 use Rattle.frame.specs.Machine.{fresh, run, numbers, closing}
-use Rattle.frame.proofs.Uncut.{ended-long}
 use Rattle.frame.proofs.Whole.{uncut}
 use Rattle.frame.proofs.Counting.{findings-length}
 use Rattle.frame.proofs.Faults.{all-items}
 use Rattle.atutal.specs.Codes.{rules}
-use Rattle.atutal.proofs.Bounds.{small}
 use Rattle.atutal.proofs.Instance.{sound}
 use Rattle.judge.specs.Session.{most}
 use Rattle.judge.specs.Inner.{Ready}
@@ -33,7 +31,6 @@ use Rattle.status.specs.declared.reply.Particulars.{Particulars}
 use Rattle.fields.specs.Fields.{isDuplicate}
 use Rattle.status.specs.Reply.{isTime, areParticulars, room, verdictOf, referred, said}
 use Rattle.status.specs.Writing.{Writable, Referable}
-use Rattle.status.proofs.Lengths.{Items}
 
 -- each code has two digits
 abbrev pub Codes : List ℕ → Type 0
@@ -84,29 +81,11 @@ fits-closing c t v = go (eqb (c .phase) 4)
         (one-of (eqb (c .code) 0) _ _ (fits-numbers c t v) (fits-blank (c .code) (c .id) (omega (arith, v .code)))))
         (fits-blank 26 (c .id) (lit< tt))
 
--- each complete item has its bytes
-items-in : (n : ℕ) (x : List ℕ) → Items (itemsIn lengths n x)
-unfolding itemsIn
-items-in zero x = tt
-items-in (suc n) x = go (itemStands lengths x) refl (items-in n (drop itemEnd x))
-  where
-    go : (b : Bool) → itemStands lengths x ≡ b → Items (itemsIn lengths n (drop itemEnd x))
-        → Items (cond b (take (lengths .item) x ∷ itemsIn lengths n (drop itemEnd x)) [])
-    go true e h = (length-take-le (lengths .item) x (omega (arith, ended-long (lengths .item) x (both (not (isFoot x)) (ended (lengths .item) x) e .1))), h)
-    go false e h = tt
-
-pub items-of : (m : List ℕ) → Items (itemsOf lengths m)
-items-of m = go (headStands lengths m)
-  where
-    go : (b : Bool) → Items (cond b (itemsIn lengths (length m) (drop headEnd m)) [])
-    go true = items-in (length m) (drop headEnd m)
-    go false = tt
-
 module _ (l : Lent) where
   codes-in : (told k : ℕ) (rs : List (List ℕ)) → Codes (map (λ f. f .code) (findings (rules l) told k rs))
   unfolding findings
   codes-in told k [] = tt
-  codes-in told k (r ∷ rs) = (small (l .lists .banks) k r .code, codes-in told (k + 1) rs)
+  codes-in told k (r ∷ rs) = (omega (arith, sound l .code told k r), codes-in told (k + 1) rs)
 
 module _ (l : Lent) (t m : List ℕ) where
   abbrev R : Rules

@@ -6,14 +6,14 @@ use Prim.Native.Nat.{ℕ, zero, suc, _+_, _*_, _≤_}
 use native.Mathlib.Omega.{arith}
 use lib.ListN.{length, take, drop, length-append, length-drop}
 use lib.Seq.{length-take-le}
+use Rattle.base.specs.Each.{Each}
 use Rattle.digits.proofs.Figures.{figures-length}
 use Rattle.frame.specs.declared.Status.{Status}
 use Rattle.status.specs.Records.{headRecord, reference, references, footRecord, written}
 
 -- each is an item of 249 bytes
 abbrev pub Items : List (List ℕ) → Type 0
-Items [] = Unit
-Items (r ∷ rs) = (length r ≡ 249) × Items rs
+Items = Each (λ r. length r ≡ 249)
 
 -- so are the first of them
 pub items-take : (n : ℕ) (rs : List (List ℕ)) → Items rs → Items (take n rs)

@@ -6,3 +6,4 @@ pub mod Referred
 pub mod Judging
 pub mod SessionVerdict
 pub mod Granted
+pub mod Refusals

@@ -14,12 +14,13 @@ use Rattle.base.proofs.Every.{both}
 use Rattle.lent.specs.Lent.{Lent}
 use Rattle.frame.specs.Records.{lengths, idOf, itemsOf}
 use Rattle.frame.specs.Verdict.{overflows, tableAfter}
+use Rattle.frame.proofs.Cut.{each-item}
 use Rattle.atutal.specs.Codes.{rules}
 use Rattle.status.specs.declared.reply.Particulars.{Particulars}
 use Rattle.status.specs.Records.{references, written}
 use Rattle.status.specs.Reply.{hasAddress, room, referred, said, reply}
 use Rattle.status.proofs.Lengths.{Items, items-take, written-length}
-use Rattle.status.proofs.Bounds.{items-of, said-referable, referred-length, referred-table}
+use Rattle.status.proofs.Bounds.{said-referable, referred-length, referred-table}
 
 -- the references of so many items as there are codes, and of so many codes as there are items
 references-items : (k : ℕ) (cs : List ℕ) (rs : List (List ℕ)) → references k cs (take (length cs) rs) ≡ references k cs rs
@@ -59,7 +60,7 @@ module _ (l : Lent) (m : List ℕ) (p : Particulars) (o : overflows (rules l) ro
   few-length = length-take-le count (itemsOf lengths m) (said-referable l m p .items)
 
   pub few-items : Items few
-  few-items = items-take count (itemsOf lengths m) (items-of m)
+  few-items = items-take count (itemsOf lengths m) (each-item lengths m)
 
   -- the reply by the items referred to, with their codes, and with the table
   pub reply-few : reply l m p ≡ written (said l m p) (referred l m) few

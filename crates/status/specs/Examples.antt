@@ -1,29 +1,26 @@
--- The reply of 01's Examples, byte for byte: code 42, no references, a zero foot.
+-- The reply of 01's Examples, byte for byte: to a message whose only fault is the duplicate code X (code 42).
 -- Assumes nothing.
 use mathlib.Core.Path.{_≡_, refl}
-use mathlib.Core.List.{[], _++_}
+use mathlib.Core.List.{_++_}
 use Rattle.base.specs.Bytes.{ascii}
 use Rattle.digits.specs.Digits.{figures}
-use Rattle.frame.specs.Verdict.{none}
-use Rattle.frame.specs.declared.Status.{Status}
-use Rattle.status.specs.Records.{ending, headRecord, references, footRecord, written}
+use Rattle.frame.specs.Records.{ending, ended, isFoot, itemsIn, restAfter}
+use Rattle.frame.specs.Verdict.{findings, messageCode, verdict}
+use Rattle.heads.specs.Heads.{headFields, headRulesOf, headRules, headFound}
+use Rattle.atutal.specs.Codes.{itemFound}
+use Rattle.atutal.specs.Examples.{oneItem, given}
+use Rattle.status.specs.declared.reply.Particulars.{Particulars}
+use Rattle.status.specs.Records.{headRecord, references, footRecord, written}
+use Rattle.status.specs.Reply.{room, referred, reply}
 
-abbrev refusing : Status
-refusing =
-    record {
-      duplicate = 0x30;
-      id = ascii "A12345676T001202003010001";
-      date = 20200310;
-      number = 7;
-      time = 83000;
-      code = 42;
-      accepted = none;
-      refused = none;
-      references = 0;
-    }
+-- reply code 0, number 7, time 083000
+abbrev particulars : Particulars
+particulars = record { duplicate = 0x30; number = 7; time = 83000 }
 
-pub example-reply : written refusing [] []
+pub example-reply :
+    reply given (oneItem (ascii "X") (ascii "20200301")) particulars
     ≡ ascii "01STATUS0A12345676T00120200301000120200310000708300042" ++ ending
     ++ (ascii "0300000000000000000000000000000000000000000000" ++ ending)
-unfolding written headRecord references footRecord figures
+unfolding reply written headRecord references footRecord figures referred room verdict messageCode findings itemsIn restAfter ended isFoot
+    headFound headRules headRulesOf headFields itemFound
 example-reply = refl

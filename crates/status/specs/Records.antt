@@ -7,11 +7,8 @@ use lib.ListN.{replicate}
 use Rattle.base.specs.Bytes.{ascii, field}
 use Rattle.text.specs.Text.{isPlain}
 use Rattle.digits.specs.Digits.{figures}
+use Rattle.frame.specs.Records.{ending}
 use Rattle.frame.specs.declared.Status.{Status}
-
--- 0Dh 0Ah
-abbrev pub ending : List ℕ
-ending = 0x0d ∷ 0x0a ∷ []
 
 -- 3.1, the head, 54
 unfoldable pub headRecord : Status → List ℕ

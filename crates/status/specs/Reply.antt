@@ -8,7 +8,7 @@ use lib.ListN.{length, replicate}
 use lib.Dec.{leb, eqb}
 use Rattle.base.specs.Bytes.{field, over}
 use Rattle.calendar.specs.Calendar.{isDate}
-use Rattle.lent.specs.Lent.{Lent, listRefused, by}
+use Rattle.lent.specs.Lent.{Lent, refusalNumber, listRefused, by}
 use Rattle.frame.specs.Records.{lengths, itemsOf}
 use Rattle.frame.specs.Verdict.{Verdict, foundIn, overflows, verdict}
 use Rattle.atutal.specs.Codes.{rules}
@@ -21,6 +21,11 @@ use Rattle.status.specs.declared.reply.Answer.{Answer}
 use Rattle.status.specs.declared.reply.Answer.the-variants.{Written, Refused}
 use Rattle.status.specs.Records.{written, isAddress}
 use Rattle.fields.specs.Fields.{isDuplicate}
+
+-- the number of an answer: 0, or the refusal's
+abbrev pub replyNumber : Answer → ℕ
+replyNumber (Written n) = 0
+replyNumber (Refused r) = refusalNumber r
 
 -- refusal 7: the message has an address for the reply
 unfoldable pub hasAddress : List ℕ → Bool

@@ -5,11 +5,10 @@ use mathlib.Core.List.{List, [], _∷_, _++_}
 use lib.ListN.{length, getD}
 use Rattle.base.specs.Bytes.{ascii}
 use Rattle.digits.specs.Digits.{figures}
-use Rattle.frame.specs.Records.{lengths, itemsOf}
+use Rattle.frame.specs.Records.{lengths, ending, itemsOf}
 use Rattle.frame.specs.declared.Totals.{Totals}
 use Rattle.judge.specs.Session.{most}
 use Rattle.frame.specs.declared.Status.{Status}
-use Rattle.status.specs.Records.{ending}
 
 -- positions 1-34 of the head, and the rest with its ending
 unfoldable pub address : ℕ → List ℕ → List ℕ

@@ -1,10 +1,10 @@
-// Records and their fields on standard output (01, Records).
+// Records and their fields, put into the output (01, Records). With `only`, a record that has nothing to tell is left out.
+use crate::lines::put_counted;
+use crate::lines::put_position;
+use crate::lines::put_text;
 use crate::told;
-use crate::words::filled;
-use crate::words::put_field;
-use console::put;
-use console::put_number;
 use judge::Session;
+use text::put_at;
 
 // The records' bytes with their endings.
 pub(crate) const HEAD: usize = Session::HEAD + 2;
@@ -13,16 +13,11 @@ pub(crate) const ITEM: usize = Session::ITEM + 2;
 
 pub(crate) const FOOT: usize = Session::FOOT + 2;
 
-// The most bytes that a field of 70 bytes is shown by.
-const SHOWN: usize = 280;
-
-// The record's number and its place in the file, both from 1.
-pub(crate) fn put_place(k: usize, start: usize) {
-    put(b"RECORD ");
-    put_number(std::num::wrapping_add_u64(k as u64, 1));
-    put(b" at byte ");
-    put_number(std::num::wrapping_add_u64(start as u64, 1));
-    put(b": ");
+// A record's number and its place in the file, both shown from 1.
+pub(crate) fn put_place(out: &mut [u8], at: usize, k: usize, start: usize) -> usize {
+    let at = put_position(out, at, b"RECORD ", k, 1);
+    let at = put_position(out, at, b" at byte ", start, 1);
+    put_at(out, at, b": ")
 }
 
 // A record's bytes without its ending; none where there is no such record.
@@ -40,46 +35,29 @@ pub(crate) fn bytes(message: &[u8], start: usize, next: usize) -> &[u8] {
     &message[start..end]
 }
 
-fn put_letters(s: &[u8]) {
-    let mut out = [0u8; SHOWN];
-    let n = letters::put(&mut out, s);
-    put(b"\"");
-    put(&out[..n]);
-    put(b"\"");
+// A field: the number of its name, and the last of its positions.
+struct Named {
+    number: usize,
+    last: usize,
 }
 
-// A field's text, with the spaces at its end counted.
-fn put_text(s: &[u8]) {
-    let n = filled(s);
-    if n == 0 {
-        put(b"blank\n");
-        return;
-    }
-    put_letters(&s[0..n]);
-    if n < s.len() {
-        put(b" and ");
-        put_number((s.len() - n) as u64);
-        put(b" spaces");
-    }
-    put(b"\n");
-}
-
-// A field's name, and the last of its positions: the i-th of a record.
-fn named(numbers: &[usize], lasts: &[usize], i: usize) -> usize {
-    put(b"  ");
+// The i-th of the fields that a record has.
+fn nth(numbers: &[usize], lasts: &[usize], i: usize) -> Named {
     if i >= numbers.len() {
-        return 0;
+        return Named { number: 0, last: 0 };
     }
     if i >= lasts.len() {
-        return 0;
+        return Named { number: 0, last: 0 };
     }
-    put_field(numbers[i]);
-    lasts[i]
+    Named {
+        number: numbers[i],
+        last: lasts[i],
+    }
 }
 
-// The fields of a head, from 0: number and last position. Each begins after the one before it.
-fn head_field(i: usize) -> usize {
-    named(
+// The fields of a head, from 0. Each begins after the one before it.
+fn head_field(i: usize) -> Named {
+    nth(
         &[1, 2, 3, 4, 6, 7, 8, 9, 10, 11, 12, 13],
         &[2, 8, 9, 22, 30, 34, 42, 58, 66, 69, 104, Session::HEAD],
         i,
@@ -87,8 +65,8 @@ fn head_field(i: usize) -> usize {
 }
 
 // The fields of an item.
-fn item_field(i: usize) -> usize {
-    named(
+fn item_field(i: usize) -> Named {
+    nth(
         &[1, 14, 19, 15, 8, 9, 16, 12, 17, 18, 13],
         &[2, 8, 16, 26, 34, 50, 74, 109, 144, 179, Session::ITEM],
         i,
@@ -96,12 +74,12 @@ fn item_field(i: usize) -> usize {
 }
 
 // The fields of a foot.
-fn foot_field(i: usize) -> usize {
-    named(&[1, 20, 21], &[2, 8, Session::FOOT], i)
+fn foot_field(i: usize) -> Named {
+    nth(&[1, 20, 21], &[2, 8, Session::FOOT], i)
 }
 
 // A record, by how many fields its kind has.
-fn field(fields: usize, i: usize) -> usize {
+fn field(fields: usize, i: usize) -> Named {
     match fields {
         12 => head_field(i),
         11 => item_field(i),
@@ -110,84 +88,149 @@ fn field(fields: usize, i: usize) -> usize {
 }
 
 // The positions from after one place up to another.
-fn put_positions(from: usize, last: usize) {
+fn put_positions(out: &mut [u8], at: usize, from: usize, last: usize) -> usize {
     let first = std::num::wrapping_add_u64(from as u64, 1);
-    put(b" (");
-    put_number(first);
-    if first < last as u64 {
-        put(b"-");
-        put_number(last as u64);
+    let at = put_counted(out, at, b" (", first);
+    if first >= last as u64 {
+        return put_at(out, at, b"): ");
     }
-    put(b"): ");
+    let at = put_counted(out, at, b"-", last as u64);
+    put_at(out, at, b"): ")
 }
 
 // The text from after one place up to another.
-fn put_part(r: &[u8], from: usize, last: usize) {
+fn put_part(out: &mut [u8], at: usize, r: &[u8], from: usize, last: usize) -> usize {
     if last > r.len() {
-        return;
+        return at;
     }
     if from > last {
-        return;
+        return at;
     }
-    put_text(&r[from..last]);
+    put_text(out, at, &r[from..last])
 }
 
-// Each field by name, with its positions and its text.
-fn put_fields(r: &[u8], fields: usize) {
+// A field by name, with its positions and its text.
+fn put_field(out: &mut [u8], at: usize, r: &[u8], from: usize, f: Named) -> usize {
+    let at = put_at(out, at, b"  ");
+    let at = words::put_field(out, at, f.number);
+    let at = put_positions(out, at, from, f.last);
+    put_part(out, at, r, from, f.last)
+}
+
+// Each field of a record.
+fn put_fields(out: &mut [u8], at: usize, r: &[u8], fields: usize) -> usize {
+    let mut n = at;
     let mut from = 0;
     let mut i = 0;
     while i < fields {
-        let last = field(fields, i);
-        put_positions(from, last);
-        put_part(r, from, last);
-        from = last;
+        let f = field(fields, i);
+        n = put_field(out, n, r, from, f);
+        from = f.last;
         i += 1;
     }
+    n
 }
 
-// A head: its fields, and its answer.
-pub(crate) fn put_head(r: &[u8], day: u32, banks: &[u32], known: &[u8]) {
-    put_fields(r, 12);
-    let h = heads::found_in(r, day, banks, known);
-    told::put_head(
-        single::number(single::answer(r, 0, day, banks, known)) as usize,
-        h.code,
-    );
-}
-
-// The item at place k: its fields, its answer, and the zero watch; its amount.
-pub(crate) fn put_item(r: &[u8], k: u64, day: u32, banks: &[u32], known: &[u8]) -> u64 {
-    put_fields(r, 11);
-    let f = atutal::item::found_in(r, k, banks);
-    told::put_item(
-        single::number(single::answer(r, k, day, banks, known)) as usize,
-        f.fault,
-        f.code,
-    );
-    if f.zero & (f.code == 0) {
-        put(b"  WATCH account is all zeros\n");
+// The head: its fields, and its answer.
+pub(crate) fn put_head(
+    out: &mut [u8],
+    at: usize,
+    r: &[u8],
+    only: bool,
+    day: u32,
+    banks: &[u32],
+    known: &[u8],
+) -> usize {
+    let answer = single::number(single::answer(r, 0, day, banks, known)) as usize;
+    if only & (answer < 100) {
+        return at;
     }
-    f.amount
+    let h = heads::found_in(r, day, banks, known);
+    let at = put_place(out, at, 0, 0);
+    let at = put_at(out, at, b"head\n");
+    let at = put_fields(out, at, r, 12);
+    told::put_head(out, at, answer, h.code)
+}
+
+// An item's fields, its answer, and the zero watch.
+fn put_found(
+    out: &mut [u8],
+    at: usize,
+    r: &[u8],
+    k: usize,
+    answer: usize,
+    f: frame::Found,
+) -> usize {
+    let at = put_counted(out, at, b"item ", k as u64);
+    let at = put_at(out, at, b"\n");
+    let at = put_fields(out, at, r, 11);
+    let at = told::put_item(out, at, answer, f.fault, f.code);
+    if f.zero & (f.code == 0) {
+        return put_at(out, at, b"  WATCH account is all zeros\n");
+    }
+    at
+}
+
+// The item at place k, which begins at a place of the message.
+pub(crate) fn put_item(
+    out: &mut [u8],
+    at: usize,
+    r: &[u8],
+    k: usize,
+    start: usize,
+    only: bool,
+    answer: usize,
+    f: frame::Found,
+) -> usize {
+    if only & (answer < 100) & !(f.zero & (f.code == 0)) {
+        return at;
+    }
+    let at = put_place(out, at, k, start);
+    put_found(out, at, r, k, answer, f)
 }
 
 // What the items give, against the foot.
-fn put_given(count: u64, sum: u64) {
-    put(b"  the items give count ");
-    put_number(count);
-    put(b" and sum ");
-    put_number(sum);
-    put(b"\n");
+fn put_given(out: &mut [u8], at: usize, count: u64, sum: u64) -> usize {
+    let at = put_counted(out, at, b"  the items give count ", count);
+    let at = put_counted(out, at, b" and sum ", sum);
+    put_at(out, at, b"\n")
 }
 
-// The foot: its fields, what the items give, and its answer.
-pub(crate) fn put_foot(r: &[u8], count: u64, sum: u64) {
-    put_fields(r, 3);
-    put_given(count, sum);
-    match atutal::foot::code_in(r, count, sum) {
-        0 => put(b"  no fault\n"),
-        18 => put(
+// A foot's code in words.
+fn put_code(out: &mut [u8], at: usize, code: u8) -> usize {
+    match code {
+        0 => put_at(out, at, b"  no fault\n"),
+        18 => put_at(
+            out,
+            at,
             b"  FAULT item count: not what the items give (code 18, the message is refused)\n",
         ),
-        _ => put(b"  FAULT sum: not what the items give (code 19, the message is refused)\n"),
+        _ => put_at(
+            out,
+            at,
+            b"  FAULT sum: not what the items give (code 19, the message is refused)\n",
+        ),
     }
+}
+
+// The foot, the k-th record: its fields, what the items give, and its answer.
+pub(crate) fn put_foot(
+    out: &mut [u8],
+    at: usize,
+    r: &[u8],
+    k: usize,
+    start: usize,
+    only: bool,
+    count: u64,
+    sum: u64,
+) -> usize {
+    let code = atutal::foot::code_in(r, count, sum);
+    if only & (code == 0) {
+        return at;
+    }
+    let at = put_place(out, at, k, start);
+    let at = put_at(out, at, b"foot\n");
+    let at = put_fields(out, at, r, 3);
+    let at = put_given(out, at, count, sum);
+    put_code(out, at, code)
 }

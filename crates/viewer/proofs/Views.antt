@@ -8,24 +8,23 @@ use native.Mathlib.Omega.{arith}
 use lib.ListN.{length, getD, take, drop}
 use denote.Ref.{RefT, now}
 use Rattle.frame.specs.Records.{lengths, headEnd, itemEnd, footEnd, itemsIn, headStands, headOf, itemsOf, footOf, isBroken}
-use Rattle.frame.specs.Places.{place, recordAt}
+use Rattle.frame.specs.Places.{place}
 use Rattle.frame.specs.declared.Record.{Record}
 use Rattle.frame.specs.declared.Record.the-variants.{Head, Item, Foot, End}
 use Rattle.frame.proofs.Places as places
 use Rattle.viewer.specs.Walk.{itemRecords, closingRecords, recordsOf, kth, bytesOf}
-use Rattle.viewer.specs.Views.{begun, met, moved, walked}
-use Rattle.viewer.specs.declared.View.{View}
-use Rattle.viewer.proofs.Walk.{goneOn, at-kth}
+use Rattle.viewer.specs.Views.{nextAt, goneOn, viewAt, begun, met, walked}
+use Rattle.viewer.proofs.Walk.{at-kth}
 
--- what a view meets after k steps
-met-after : (k : ℕ) (v : View) → met (walked k v) ≡ recordAt (now (v .message)) (goneOn (now (v .message)) (v .at) k)
+-- the view gone on k times is the view at the position k records after its own: so a walk may keep the position
+pub kept-at : (s : RefT (List ℕ)) (at k : ℕ) → walked k (viewAt s at) ≡ viewAt s (goneOn (now s) at k)
 unfolding walked goneOn
-met-after zero v = refl
-met-after (suc k) v = met-after k (moved v)
+kept-at s at zero = refl
+kept-at s at (suc k) = kept-at s (nextAt (now s) at) k
 
 -- walking k times by `after` from `new` meets the k-th record of the cut
 pub walk : (s : RefT (List ℕ)) (k : ℕ) → met (walked k (begun s)) ≡ kth (recordsOf (now s)) k
-walk s k = met-after k (begun s) ∙ at-kth (now s) k
+walk s k = ap met (kept-at s 0 k) ∙ at-kth (now s) k
 
 kth-first : (r : Record) (rs : List Record) → kth (r ∷ rs) 0 ≡ r
 unfolding kth

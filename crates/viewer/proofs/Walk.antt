@@ -1,25 +1,18 @@
 -- A walk meets the records of the cut, one after the other, and stays at the break or the end.
 -- Assumes nothing.
-use mathlib.Core.Path.{_≡_, refl, sym, ap, _∙_}
-use mathlib.Core.Bool.{Bool, true, false, cond, not}
+use mathlib.Core.Path.{_≡_, refl, ap, _∙_}
+use mathlib.Core.Bool.{Bool, true, false, cond}
 use mathlib.Core.List.{List, [], _∷_, _++_}
-use Prim.Native.Nat.{ℕ, zero, suc, _+_, _*_, _≤_, _<_}
+use Prim.Native.Nat.{ℕ, zero, suc, _+_, _<_}
 use native.Mathlib.Omega.{arith}
-use lib.ListN.{length, drop, length-drop}
-use Rattle.base.proofs.Every.{both}
-use Rattle.frame.specs.Records.{lengths, headEnd, itemEnd, ended, isFoot, itemStands, itemsIn, headStands, itemsOf, isBroken}
+use lib.ListN.{length}
+use Rattle.frame.specs.Records.{lengths, headEnd, itemEnd, headStands, itemsOf, isBroken}
 use Rattle.frame.specs.Places.{place, recordAt}
 use Rattle.frame.specs.declared.Record.{Record}
 use Rattle.frame.specs.declared.Record.the-variants.{Head, Item, Break}
-use Rattle.frame.proofs.Uncut.{ended-long, rest-no-item}
 use Rattle.frame.proofs.Places as places
 use Rattle.viewer.specs.Walk.{itemRecords, closingRecords, recordsOf, kth}
-use Rattle.viewer.specs.Views.{nextOf, nextAt}
-
--- the position k records after a position
-unfoldable pub goneOn : List ℕ → ℕ → ℕ → ℕ
-goneOn m at zero = at
-goneOn m at (suc k) = goneOn m (nextAt m at) k
+use Rattle.viewer.specs.Views.{nextOf, nextAt, goneOn}
 
 -- a walk from a position meets these records, and stays at the last
 abbrev pub Meets : List ℕ → ℕ → List Record → Type 0
@@ -63,32 +56,13 @@ module _ (m : List ℕ) (e : headStands lengths m ≡ true) where
   abbrev n : ℕ
   n = length (itemsOf lengths m)
 
-  -- what follows the head
-  abbrev body : List ℕ
-  body = drop headEnd m
-
   abbrev closing : List Record
   closing = closingRecords (isBroken lengths m) n
 
-  -- no item stands after the items
-  no-item : itemStands lengths (drop (place n) m) ≡ false
-  no-item =
-      let l : length body ≤ length m = omega (arith, length-drop headEnd m) in
-      sym (ap (itemStands lengths) (places.rest-is m e)) ∙ rest-no-item (length m) body l
-
-  -- the items lie in the message
-  within : (k : ℕ) → k ≤ length (itemsIn lengths (length m) body) → place k ≤ length m
-  within zero h = ended-long (lengths .head) m e
-  within (suc k) h =
-      let y = drop (k * itemEnd) body in
-      let q = places.kth lengths (length m) body k (omega arith) .stands in
-      let l = ended-long (lengths .item) y (both (not (isFoot y)) (ended (lengths .item) y) q .1) in
-      omega (arith, length-drop (k * itemEnd) body, length-drop headEnd m)
-
   closing-met : (b : Bool) → isBroken lengths m ≡ b → Meets m (place n) (closingRecords b n)
   unfolding closingRecords
-  closing-met true b = (places.at-break m e b (rw (places.items-are m e) (within _ (omega arith))) no-item, refl)
-  closing-met false b = let f = places.at-foot m e b in (f .0, (places.at-end m n (f .1), refl))
+  closing-met true b = (places.at-break m e b, refl)
+  closing-met false b = (places.at-foot m e b, (places.at-end m n (places.foot-stands m e b), refl))
 
   after-head-met : Meets m (place 0) (itemRecords 0 (itemsOf lengths m) ++ closing)
   after-head-met =

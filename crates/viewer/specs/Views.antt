@@ -20,9 +20,18 @@ nextOf End at = at
 unfoldable pub nextAt : List ℕ → ℕ → ℕ
 nextAt m at = nextOf (recordAt m at) at
 
+-- the position k records after a position
+unfoldable pub goneOn : List ℕ → ℕ → ℕ → ℕ
+goneOn m at zero = at
+goneOn m at (suc k) = goneOn m (nextAt m at) k
+
+-- a view of a message at a position
+abbrev pub viewAt : RefT (List ℕ) → ℕ → View
+viewAt message at = record { message = message; at = at }
+
 -- a view of a message at its head
 abbrev pub begun : RefT (List ℕ) → View
-begun message = record { message = message; at = 0 }
+begun message = viewAt message 0
 
 -- what stands at a view's position
 abbrev pub met : View → Record

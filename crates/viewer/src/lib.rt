@@ -1,9 +1,7 @@
 // The support desk's viewer: a held message is walked record by record, and the walk stops at the first break (01, Calls
 // and their answers).
 ghost use mathlib.Core.Path.{_≡_};
-ghost use Rattle.frame.specs.Places.{recordAt};
-ghost use Rattle.viewer.specs.Views.{nextAt, begun, met, moved};
-ghost use Rattle.viewer.specs.Walk.{recordsOf, kth};
+ghost use Rattle.viewer.specs.Views.{nextAt, viewAt, begun, met, moved};
 use frame::Record;
 
 // A held message, and a position in it.
@@ -51,33 +49,16 @@ pub fn after<'a>(view: View<'a>) -> View<'a>
 }
 
 // What a view at a position meets.
-fn met_at(message: &[u8], at: usize) -> Record
-    ensures { λ r. ⌜ r ≡ recordAt (now (message .entry)) at ⌝ }
+pub fn met_at(message: &[u8], at: usize) -> Record
+    ensures { λ r. ⌜ r ≡ met (viewAt (message .entry) at) ⌝ }
 {
     record(View { message, at })
 }
 
 // The position of a view that was at a position and goes on.
-fn moved_from(message: &[u8], at: usize) -> usize
-    ensures { λ r. ⌜ r ≡ nextAt (now (message .entry)) at ⌝ }
+pub fn moved_from(message: &[u8], at: usize) -> usize
+    ensures { λ r. ⌜ r ≡ moved (viewAt (message .entry) at) .at ⌝ }
 {
     let view = after(View { message, at });
     view.at
-}
-
-// The k-th record of a walk, from 0, the head; the break or the end once it is reached, and ever after.
-pub fn nth(message: &[u8], k: usize) -> Record
-    ensures { λ r. ⌜ r ≡ kth (recordsOf (now (message .entry))) k ⌝ }
-{
-    let mut at = 0;
-    let mut i = 0;
-    while i < k {
-        let next = moved_from(message, at);
-        if next == at {
-            return met_at(message, at);
-        }
-        at = next;
-        i += 1;
-    }
-    met_at(message, at)
 }

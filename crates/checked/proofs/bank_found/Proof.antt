@@ -24,26 +24,26 @@ use Rattle.checked.proofs.bank_found.Tie as tie
 small : (s : List ℕ) → length s ≡ 8 → numberOf s < 100000000
 small s h = rw h at (number-lt s)
 
-module _ (banks s : List ℕ) where
-  other : (length s ≡ 8 → ⊥) → Fault NotDigits ≡ bankFound banks s
+module _ (isListed : ℕ → Bool) (s : List ℕ) where
+  other : (length s ≡ 8 → ⊥) → Fault NotDigits ≡ bankFound isListed s
   unfolding bankFound
   other f = simp (another-length 8 s f)
 
   module _ (h : length s ≡ 8) where
-    no-digits : isDigits s ≡ false → Fault NotDigits ≡ bankFound banks s
+    no-digits : isDigits s ≡ false → Fault NotDigits ≡ bankFound isListed s
     unfolding bankFound
     no-digits e = simp (of-digits 8 s h e)
 
-    wrong : satisfies s ≡ false → isDigits s ≡ true → Fault CheckDigit ≡ bankFound banks s
+    wrong : satisfies s ≡ false → isDigits s ≡ true → Fault CheckDigit ≡ bankFound isListed s
     unfolding bankFound
     wrong e d = simp (of-digits 8 s h d, e)
 
-    right : satisfies s ≡ true → (t : Bool) → foundIn banks (numberOf s) ≡ t → unless t NotListed Right ≡ bankFound banks s
+    right : satisfies s ≡ true → (t : Bool) → isListed (numberOf s) ≡ t → unless t NotListed Right ≡ bankFound isListed s
     unfolding bankFound
     right e t g = simp (of-digits 8 s h (satisfying-digits s e), e, g)
 
 returns : tie.Need-returns
-returns c = other (c .before .before .before .args .banks .now) (c .before .before .before .args .s .now) (c .if1 .taken)
+returns c = other (foundIn (c .before .before .before .args .banks .now)) (c .before .before .before .args .s .now) (c .if1 .taken)
 
 satisfies-requires : tie.Need-satisfies-requires
 satisfies-requires c κs = search needs
@@ -57,14 +57,14 @@ returns-2 c =
     let c2 = c1 .before in
     let c3 = c2 .before in
     let c4 = c3 .before .before .before in
-    wrong (c4 .args .banks .now) (c4 .args .s .now) (c3 .if1 .left) (sym (c2 .satisfies .ensures) ∙ not-true _ (c1 .if2 .taken))
+    wrong (foundIn (c4 .args .banks .now)) (c4 .args .s .now) (c3 .if1 .left) (sym (c2 .satisfies .ensures) ∙ not-true _ (c1 .if2 .taken))
     (sym (c .before .is-digits .ensures) ∙ c .if3 .taken)
 
 returns-3 : tie.Need-returns-3
 returns-3 c =
     let c1 = c .before .before .before .before in
     let c2 = c1 .before .before .before in
-    no-digits (c2 .args .banks .now) (c2 .args .s .now) (c1 .if1 .left) (sym (c .before .is-digits .ensures) ∙ c .if3 .left)
+    no-digits (foundIn (c2 .args .banks .now)) (c2 .args .s .now) (c1 .if1 .left) (sym (c .before .is-digits .ensures) ∙ c .if3 .left)
 
 number-requires : tie.Need-number-requires
 number-requires c κs = search needs
@@ -85,7 +85,7 @@ returns-4 c =
     let c3 = c2 .before in
     let c4 = c3 .before in
     let c5 = c4 .before .before .before in
-    right (c5 .args .banks .now) (c5 .args .s .now) (c4 .if1 .left) (sym (c3 .satisfies .ensures) ∙ not-false _ (c2 .if2 .left)) true
+    right (foundIn (c5 .args .banks .now)) (c5 .args .s .now) (c4 .if1 .left) (sym (c3 .satisfies .ensures) ∙ not-false _ (c2 .if2 .left)) true
     (sym (ap (foundIn (c5 .args .banks .now)) (c1 .number .ensures)) ∙ sym (c .before .is-listed .ensures .0) ∙ c .if4 .taken)
 
 returns-5 : tie.Need-returns-5
@@ -95,7 +95,7 @@ returns-5 c =
     let c3 = c2 .before in
     let c4 = c3 .before in
     let c5 = c4 .before .before .before in
-    right (c5 .args .banks .now) (c5 .args .s .now) (c4 .if1 .left) (sym (c3 .satisfies .ensures) ∙ not-false _ (c2 .if2 .left)) false
+    right (foundIn (c5 .args .banks .now)) (c5 .args .s .now) (c4 .if1 .left) (sym (c3 .satisfies .ensures) ∙ not-false _ (c2 .if2 .left)) false
     (sym (ap (foundIn (c5 .args .banks .now)) (c1 .number .ensures)) ∙ sym (c .before .is-listed .ensures .0) ∙ c .if4 .left)
 
 pub bank-found-spec : {M : Type 1} → statement M

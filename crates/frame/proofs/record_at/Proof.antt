@@ -1,14 +1,14 @@
 -- `frame::record_at` meets its contract: the tests that led to each answer say what stands there.
 -- Assumes nothing.
 use mathlib.Core.Path.{_≡_, sym, _∙_}
-use mathlib.Core.Bool.{true, false, cond, _&&_, and-false}
+use mathlib.Core.Bool.{Bool, true, false, cond, _&&_, and-false}
 use mathlib.Core.List.{List}
-use Prim.Native.Nat.{ℕ, _≤_, _<_}
+use Prim.Native.Nat.{ℕ, _-_, _≤_, _<_}
 use lib.Dec.{leb, eqb}
 use lib.ListN.{length}
 use borrow.Author.Tests.{eq-eqb, ne-eqb, le-leb, lt-leb}
 use Rattle.frame.specs.Records.{lengths, headEnd, footEnd, headStands}
-use Rattle.frame.specs.Places.{beyond, laterAt, recordAt}
+use Rattle.frame.specs.Places.{beyond, footAt, laterAt, recordAt}
 use Rattle.frame.specs.declared.Record.{Record}
 use Rattle.frame.specs.declared.Record.the-variants.{Head, Break, End}
 use borrow.Author.Needs.{needs}
@@ -35,22 +35,23 @@ module _ (m : List ℕ) (at : ℕ) where
 
     -- after the head, in the message
     module _ (h : headEnd ≤ at) (k : at ≤ length m) where
-      there : recordAt m at ≡ cond (eqb (beyond at) 0) (laterAt m at) (cond (eqb at (length m) && eqb (beyond at) footEnd) End Break)
+      there : recordAt m at ≡ cond (eqb (beyond at) 0) (laterAt m at) (cond (eqb (beyond at) footEnd && footAt m (at - footEnd)) End Break)
       unfolding recordAt
       there = rw (ne-eqb at 0 z, le-leb headEnd at h, le-leb at (length m) k)
 
       later : beyond at ≡ 0 → (r : Record) → r ≡ laterAt m at → r ≡ recordAt m at
       later e r q = rw (there, eq-eqb (beyond at) 0 e) q
 
-      end : at ≡ length m → beyond at ≡ footEnd → End ≡ recordAt m at
-      end e f = rw (there, f, eq-eqb at (length m) e)
+      no-place : (beyond at ≡ 0 → ⊥) → (beyond at ≡ footEnd → ⊥) → Break ≡ recordAt m at
+      no-place n f = rw (there, ne-eqb (beyond at) 0 n, ne-eqb (beyond at) footEnd f)
 
-      module _ (n : beyond at ≡ 0 → ⊥) where
-        no-place : (beyond at ≡ footEnd → ⊥) → Break ≡ recordAt m at
-        no-place f = rw (there, ne-eqb (beyond at) 0 n, ne-eqb (beyond at) footEnd f, and-false (eqb at (length m)))
+      -- a foot beyond a place: r is what `foot_at` answered of it
+      module _ (e : beyond at ≡ footEnd) {r : Bool} (q : r ≡ footAt m (at - footEnd)) where
+        end : r ≡ true → End ≡ recordAt m at
+        end t = rw (there, e, sym q ∙ t)
 
-        no-end : (at ≡ length m → ⊥) → Break ≡ recordAt m at
-        no-end f = rw (there, ne-eqb (beyond at) 0 n, ne-eqb at (length m) f)
+        no-foot : r ≡ false → Break ≡ recordAt m at
+        no-foot t = rw (there, e, sym q ∙ t)
 
 has-ending-requires : tie.Need-has-ending-requires
 has-ending-requires c κs = search needs
@@ -90,24 +91,32 @@ returns-5 c =
 
 returns-6 : tie.Need-returns-6
 returns-6 c =
-    let b = c .before .before .before in
-    let d = b .before .before in
-    let a = d .before .before .args in
-    end (a .message .now) (a .at) (d .if1 .left) (b .before .if3 .left) (b .if4 .left) (c .before .if6 .taken) (c .if7 .taken)
-
-returns-7 : tie.Need-returns-7
-returns-7 c =
-    let b = c .before .before .before in
-    let d = b .before .before in
-    let a = d .before .before .args in
-    no-place (a .message .now) (a .at) (d .if1 .left) (b .before .if3 .left) (b .if4 .left) (c .before .before .if5 .left) (c .if7 .left)
-
-returns-8 : tie.Need-returns-8
-returns-8 c =
     let b = c .before .before in
     let d = b .before .before in
     let a = d .before .before .args in
-    no-end (a .message .now) (a .at) (d .if1 .left) (b .before .if3 .left) (b .if4 .left) (c .before .if5 .left) (c .if6 .left)
+    no-place (a .message .now) (a .at) (d .if1 .left) (b .before .if3 .left) (b .if4 .left) (c .before .if5 .left) (c .if6 .taken)
+
+sub-foot-at : tie.Need-sub-foot-at
+sub-foot-at c = search needs
+
+foot-at-requires : tie.Need-foot-at-requires
+foot-at-requires c κs = search needs
+
+returns-7 : tie.Need-returns-7
+returns-7 c =
+    let e = c .before .before in
+    let b = e .before .before in
+    let d = b .before .before in
+    let a = d .before .before .args in
+    end (a .message .now) (a .at) (d .if1 .left) (b .before .if3 .left) (b .if4 .left) (e .if6 .left) (c .before .foot-at .ensures) (c .if7 .taken)
+
+returns-8 : tie.Need-returns-8
+returns-8 c =
+    let e = c .before .before in
+    let b = e .before .before in
+    let d = b .before .before in
+    let a = d .before .before .args in
+    no-foot (a .message .now) (a .at) (d .if1 .left) (b .before .if3 .left) (b .if4 .left) (e .if6 .left) (c .before .foot-at .ensures) (c .if7 .left)
 
 pub record-at-spec : {M : Type 1} → statement M
 record-at-spec =
@@ -121,5 +130,7 @@ record-at-spec =
     later-at-requires
     returns-5
     returns-6
+    sub-foot-at
+    foot-at-requires
     returns-7
     returns-8)

@@ -10,6 +10,7 @@ use lib.ListN.{length, getD, take, drop, length-drop}
 use lib.Seq.{length-take-le}
 use Rattle.base.specs.Bytes.{field}
 use Rattle.digits.specs.Digits.{digit, isDigits}
+use Rattle.lists.specs.Banks.{foundIn}
 use Rattle.findings.specs.declared.Kind.{Kind}
 use Rattle.findings.specs.declared.Kind.the-variants.{Mark, NotDigits, NotListed, BlankOrZero}
 use Rattle.findings.specs.declared.Finding.{Finding}
@@ -238,7 +239,7 @@ returns c =
     let q = c7 .found3 .ensures ∙ ap (λ (t : Bool). tested t NotDigits) (c8 .is-digits .ensures ∙ four r (c17 .pre)) in
     let p = c2 .found4 .ensures ∙ ap (λ (t : Bool). tested t NotListed) (c3 .is-purpose .ensures) in
     let n = c .found5 .ensures ∙ ap (λ (t : Bool). tested (not t) BlankOrZero) (c1 .is-blank .ensures) in
-    made (headFields (c17 .args .e) (c17 .args .banks .now) (c17 .args .known .now) r)
+    made (headFields (c17 .args .e) (foundIn (c17 .args .banks .now)) (c17 .args .known .now) r)
     (c16 .type-found .ensures) m d (c11 .initiator-found .ensures) (c10 .identifier-in .ensures) (c9 .compiled-found .ensures) q
     (c6 .bank-found .ensures) (c5 .account-found .ensures) (c4 .debit-in .ensures) p n
 

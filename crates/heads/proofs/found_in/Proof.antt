@@ -8,6 +8,7 @@ use lib.ListN.{length}
 use borrow.Author.Tests.{eq-eqb, ne-eqb}
 use Rattle.base.specs.Bytes.{field}
 use Rattle.text.specs.Text.{isText}
+use Rattle.lists.specs.Banks.{foundIn}
 use Rattle.findings.specs.Codes.{firstWhole}
 use Rattle.heads.specs.declared.HeadFindings.{HeadFindings}
 use Rattle.heads.specs.Heads.{headFields, headRulesOf, headRules, headFound}
@@ -15,20 +16,20 @@ use borrow.Author.Needs.{needs}
 use Rattle.heads.proofs.found_in.Statement.{statement}
 use Rattle.heads.proofs.found_in.Tie as tie
 
-module _ (e : ℕ) (banks known r : List ℕ) where
-  other : (length r ≡ 174 → ⊥) → record { letter = false; code = 26 } ≡ headFound e banks known r
+module _ (e : ℕ) (isListed : ℕ → Bool) (known r : List ℕ) where
+  other : (length r ≡ 174 → ⊥) → record { letter = false; code = 26 } ≡ headFound e isListed known r
   unfolding headFound
   other f = simp (ne-eqb (length r) 174 f)
 
-  head : length r ≡ 174 → (t : Bool) (c : ℕ) → t ≡ isText (field 70 174 r) → {f : HeadFindings} → f ≡ headFields e banks known r
-      → c ≡ firstWhole (headRulesOf f) → record { letter = not t; code = c } ≡ headFound e banks known r
+  head : length r ≡ 174 → (t : Bool) (c : ℕ) → t ≡ isText (field 70 174 r) → {f : HeadFindings} → f ≡ headFields e isListed known r
+      → c ≡ firstWhole (headRulesOf f) → record { letter = not t; code = c } ≡ headFound e isListed known r
   unfolding headFound headRules
   head h t c p g q = simp (eq-eqb (length r) 174 h, p, q, g)
 
 returns : tie.Need-returns
 returns c =
     let c1 = c .before .before .before .before in
-    other (c1 .args .e) (c1 .args .banks .now) (c1 .args .known .now) (c1 .args .r .now) (c .if1 .taken)
+    other (c1 .args .e) (foundIn (c1 .args .banks .now)) (c1 .args .known .now) (c1 .args .r .now) (c .if1 .taken)
 
 sub-is-text : tie.Need-sub-is-text
 sub-is-text c = search needs
@@ -56,7 +57,7 @@ returns-2 c =
     let c2 = c1 .before in
     let c3 = c2 .before .before in
     let c4 = c3 .before .before .before .before in
-    head (c4 .args .e) (c4 .args .banks .now) (c4 .args .known .now) (c4 .args .r .now) (c3 .if1 .left) (c2 .is-text .result) (c .code-of .result)
+    head (c4 .args .e) (foundIn (c4 .args .banks .now)) (c4 .args .known .now) (c4 .args .r .now) (c3 .if1 .left) (c2 .is-text .result) (c .code-of .result)
     (c2 .is-text .ensures) (c1 .fields-in .ensures) (c .code-of .ensures)
 
 pub found-in-spec : {M : Type 1} → statement M

@@ -7,6 +7,7 @@ use Prim.Native.Nat.{ℕ}
 use lib.ListN.{length}
 use borrow.Author.Tests.{eq-eqb, ne-eqb, not-true, not-false}
 use Rattle.calendar.specs.Calendar.{isDate}
+use Rattle.lists.specs.Banks.{foundIn}
 use Rattle.lent.specs.Lent.{Lent, lent, listRefused}
 use Rattle.lent.specs.declared.Refusal.{Refusal}
 use Rattle.lent.specs.declared.Refusal.the-variants.{NotADay, Malformed}
@@ -32,12 +33,12 @@ module _ (l : Lent) (k : ℕ) (r : List ℕ) where
     no-list q h = rw (d, ← i, h)
 
     module _ (h : o ≡ outcome.Done) where
-      head : length r ≡ lengths .head → {a : Answer} → a ≡ headAnswer (l .day) (l .lists .banks) (l .lists .known) r → a ≡ singleAnswer l k r
+      head : length r ≡ lengths .head → {a : Answer} → a ≡ headAnswer (l .day) (foundIn (l .lists .banks)) (l .lists .known) r → a ≡ singleAnswer l k r
       unfolding singleAnswer
       head n f = rw (d, ← i, h, eq-eqb (length r) (lengths .head) n) f
 
       module _ (m : length r ≡ lengths .head → ⊥) where
-        item : length r ≡ lengths .item → {a : Answer} → a ≡ itemAnswer (l .lists .banks) k r → a ≡ singleAnswer l k r
+        item : length r ≡ lengths .item → {a : Answer} → a ≡ itemAnswer (foundIn (l .lists .banks)) k r → a ≡ singleAnswer l k r
         unfolding singleAnswer
         item n f = rw (d, ← i, h, ne-eqb (length r) (lengths .head) m, eq-eqb (length r) (lengths .item) n) f
 

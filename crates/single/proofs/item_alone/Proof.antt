@@ -1,10 +1,12 @@
 -- `single::item_alone` meets its contract: the letters, then the fields.
 -- Assumes nothing.
 use mathlib.Core.Path.{_≡_, _∙_}
+use mathlib.Core.Bool.{Bool}
 use mathlib.Core.List.{List}
 use Prim.Native.Nat.{ℕ}
 use lib.ListN.{length}
 use borrow.Author.Tests.{eq-eqb}
+use Rattle.lists.specs.Banks.{foundIn}
 use Rattle.findings.specs.Naming.{firstNamed, namedOr}
 use Rattle.findings.proofs.Naming.{in-parts}
 use Rattle.atutal.specs.Codes.{itemFields, itemFindings, rulesOf, itemRules}
@@ -13,10 +15,10 @@ use borrow.Author.Needs.{needs}
 use Rattle.single.proofs.item_alone.Statement.{statement}
 use Rattle.single.proofs.item_alone.Tie as tie
 
-is-answer : (banks : List ℕ) (k : ℕ) (r : List ℕ) → length r ≡ 249
-    → namedOr (itemTexts r) (firstNamed (rulesOf (itemFindings banks k r))) ≡ itemAnswer banks k r
+is-answer : (isListed : ℕ → Bool) (k : ℕ) (r : List ℕ) → length r ≡ 249
+    → namedOr (itemTexts r) (firstNamed (rulesOf (itemFindings isListed k r))) ≡ itemAnswer isListed k r
 unfolding itemFindings itemRules itemAnswer
-is-answer banks k r h = rw (eq-eqb (length r) 249 h) (in-parts (itemTexts r) (rulesOf (itemFields banks k r)))
+is-answer isListed k r h = rw (eq-eqb (length r) 249 h) (in-parts (itemTexts r) (rulesOf (itemFields isListed k r)))
 
 all-findings-requires : tie.Need-all-findings-requires
 all-findings-requires c κs = search needs
@@ -33,7 +35,7 @@ returns c =
     let c2 = c1 .before in
     let c3 = c2 .before .before .before in
     c .item-letters .ensures
-    ∙ rw (c1 .item-named .ensures, c2 .all-findings .ensures) (is-answer (c3 .args .banks .now) (c3 .args .k) (c3 .args .r .now) (c3 .pre))
+    ∙ rw (c1 .item-named .ensures, c2 .all-findings .ensures) (is-answer (foundIn (c3 .args .banks .now)) (c3 .args .k) (c3 .args .r .now) (c3 .pre))
 
 pub item-alone-spec : {M : Type 1} → statement M
 item-alone-spec =

@@ -1,10 +1,18 @@
--- `slip::answered` is safe, and its answer counts bytes of the output.
+-- `slip::answered` meets its contract: a file is refused, or the message is judged by what the files say.
 -- Assumes nothing.
-use Rattle.base.proofs.Written.{text}
+use mathlib.Core.Path.{_≡_}
+use Prim.Native.Nat.{ℕ}
+use lib.ListN.{length, replicate, length-replicate}
 use Rattle.files.proofs.Within.{banks}
+use Rattle.slips.specs.Message.{bankPlaces}
+use Rattle.slips.proofs.Told.{not-read, by-files, counts}
 use borrow.Author.Needs.{needs}
 use Rattle.slip.proofs.answered.Statement.{statement}
 use Rattle.slip.proofs.answered.Tie as tie
+
+-- the list that is lent
+places : length {A = ℕ} (replicate bankPlaces 0) ≡ bankPlaces
+places = length-replicate {A = ℕ} bankPlaces 0
 
 slice-aggregate-read : tie.Need-slice-aggregate-read
 slice-aggregate-read c = search needs
@@ -30,17 +38,22 @@ slice-aggregate-judged c = banks (c .before .before .before .before .before .bef
 judged-requires : tie.Need-judged-requires
 judged-requires c κs = search needs
 
-same-length : tie.Need-same-length
-same-length c = search needs
-
 returns : tie.Need-returns
-returns c = let f = text (c .before .before .put-refusal .ensures) in (f .low, f .long)
-
-same-length-2 : tie.Need-same-length-2
-same-length-2 c = search needs
+returns c =
+    let c1 = c .before .before .before in
+    let f = c1 .before .before .before .read .ensures in
+    let t = not-read f places (c1 .r .given .0 .0) (c1 .r .given .1) (c .put-refusal .ensures) (search needs) in
+    let n = counts t in
+    ((n .low, n .long), t)
 
 returns-2 : tie.Need-returns-2
-returns-2 c = search needs
+returns-2 c =
+    let c1 = c .before .before .before .before in
+    let f = c1 .before .before .before .read .ensures in
+    let d = c1 .day .given in
+    let t = by-files f places (d .0 .0) (d .0 .1 .0) (d .1) (c .judged .ensures) in
+    let n = counts t in
+    ((n .low, n .long), t)
 
 pub answered-spec : {M : Type 1} → statement M
 answered-spec =
@@ -54,7 +67,5 @@ answered-spec =
     array-share-prefix-list
     slice-aggregate-judged
     judged-requires
-    same-length
     returns
-    same-length-2
     returns-2)

@@ -1,6 +1,7 @@
--- `slip::judged` is safe, and its answer counts bytes of the output.
+-- `slip::judged` meets its contract: what is told is the answer of the session that the pieces led to.
 -- Assumes nothing.
-use Rattle.base.proofs.Written.{text}
+use Rattle.slips.specs.Message.{zeros}
+use Rattle.slips.proofs.Told.{answers}
 use borrow.Author.Needs.{needs}
 use Rattle.slip.proofs.judged.Statement.{statement}
 use Rattle.slip.proofs.judged.Tie as tie
@@ -26,11 +27,12 @@ read-message-requires c κs = search needs
 answer-requires : tie.Need-answer-requires
 answer-requires c κs = search needs
 
-same-length : tie.Need-same-length
-same-length c = search needs
-
 returns : tie.Need-returns
-returns c = let f = text (c .before .before .answer .ensures) in (f .low, f .long)
+unfolding zeros
+returns c =
+    let c1 = c .before .before .before .before in
+    let c2 = c1 .before .before .before in
+    answers (c2 .before .before .before .before .before .args .day) (c2 .«open» .ensures) (c1 .read-message .ensures) (c .answer .ensures) (search needs)
 
 pub judged-spec : {M : Type 1} → statement M
 judged-spec =
@@ -43,5 +45,4 @@ judged-spec =
     slice-aggregate-read-message-2
     read-message-requires
     answer-requires
-    same-length
     returns)

@@ -1,18 +1,20 @@
 -- `atutal::item::all_findings` meets its contract: the length says whether it is an item.
 -- Assumes nothing.
 use mathlib.Core.Path.{_≡_}
+use mathlib.Core.Bool.{Bool}
 use mathlib.Core.List.{List}
 use Prim.Native.Nat.{ℕ}
 use lib.ListN.{length}
 use borrow.Author.Tests.{eq-eqb, ne-eqb}
+use Rattle.lists.specs.Banks.{foundIn}
 use Rattle.atutal.specs.declared.item.ItemFindings.{ItemFindings}
 use Rattle.atutal.specs.Codes.{itemFields, itemFindings}
 use borrow.Author.Needs.{needs}
 use Rattle.atutal.proofs.item.all_findings.Statement.{statement}
 use Rattle.atutal.proofs.item.all_findings.Tie as tie
 
-module _ (banks : List ℕ) (k : ℕ) (r : List ℕ) where
-  whole : length r ≡ 249 → (f : ItemFindings) → f ≡ itemFields banks k r → f ≡ itemFindings banks k r
+module _ (isListed : ℕ → Bool) (k : ℕ) (r : List ℕ) where
+  whole : length r ≡ 249 → (f : ItemFindings) → f ≡ itemFields isListed k r → f ≡ itemFindings isListed k r
   unfolding itemFindings
   whole h f g = simp (eq-eqb (length r) 249 h) g
 
@@ -23,7 +25,7 @@ returns : tie.Need-returns
 returns c =
     let c1 = c .before in
     let c2 = c1 .before .before .before in
-    whole (c2 .args .banks .now) (c2 .args .k) (c2 .args .r .now) (c1 .if1 .taken) (c .fields-in .result) (c .fields-in .ensures)
+    whole (foundIn (c2 .args .banks .now)) (c2 .args .k) (c2 .args .r .now) (c1 .if1 .taken) (c .fields-in .result) (c .fields-in .ensures)
 
 returns-2 : tie.Need-returns-2
 unfolding itemFindings

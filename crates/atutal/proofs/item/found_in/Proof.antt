@@ -1,7 +1,7 @@
 -- `atutal::item::found_in` meets its contract: the codes by the findings are those of the table.
 -- Assumes nothing.
 use mathlib.Core.Path.{_≡_}
-use mathlib.Core.Bool.{false, not}
+use mathlib.Core.Bool.{Bool, false, not}
 use mathlib.Core.List.{List}
 use Prim.Native.Nat.{ℕ}
 use lib.ListN.{length}
@@ -9,6 +9,7 @@ use borrow.Author.Tests.{eq-eqb, ne-eqb}
 use Rattle.base.specs.Bytes.{field}
 use Rattle.text.specs.Text.{isText}
 use Rattle.account.specs.Account.{isZeroAccount}
+use Rattle.lists.specs.Banks.{foundIn}
 use Rattle.frame.specs.declared.Found.{Found}
 use Rattle.findings.specs.Codes.{firstWhole, firstAlone}
 use Rattle.atutal.specs.Codes.{itemFields, rulesOf, itemFound}
@@ -17,30 +18,30 @@ use borrow.Author.Needs.{needs}
 use Rattle.atutal.proofs.item.found_in.Statement.{statement}
 use Rattle.atutal.proofs.item.found_in.Tie as tie
 
-module _ (banks : List ℕ) (k : ℕ) (r : List ℕ) where
+module _ (isListed : ℕ → Bool) (k : ℕ) (r : List ℕ) where
   -- what the functions give of an item
   abbrev given : Found
   given =
       record {
         letter = not (isText (field 51 249 r));
-        fault = firstWhole (rulesOf (itemFields banks k r));
-        code = firstAlone (rulesOf (itemFields banks k r));
-        amount = itemFields banks k r .amount .value;
+        fault = firstWhole (rulesOf (itemFields isListed k r));
+        code = firstAlone (rulesOf (itemFields isListed k r));
+        amount = itemFields isListed k r .amount .value;
         zero = isZeroAccount (field 35 50 r);
       }
 
-  broken : (length r ≡ 249 → ⊥) → record { letter = false; fault = 26; code = 0; amount = 0; zero = false } ≡ itemFound banks k r
+  broken : (length r ≡ 249 → ⊥) → record { letter = false; fault = 26; code = 0; amount = 0; zero = false } ≡ itemFound isListed k r
   unfolding itemFound
   broken f = simp (ne-eqb (length r) 249 f)
 
-  is-found : length r ≡ 249 → given ≡ itemFound banks k r
+  is-found : length r ≡ 249 → given ≡ itemFound isListed k r
   unfolding itemFound itemFields
-  is-found h = simp (eq-eqb (length r) 249 h, same-rules banks k r)
+  is-found h = simp (eq-eqb (length r) 249 h, same-rules isListed k r)
 
 returns : tie.Need-returns
 returns c =
     let c1 = c .before .before .before in
-    broken (c1 .args .banks .now) (c1 .args .k) (c1 .args .r .now) (c .if1 .taken)
+    broken (foundIn (c1 .args .banks .now)) (c1 .args .k) (c1 .args .r .now) (c .if1 .taken)
 
 fields-in-requires : tie.Need-fields-in-requires
 fields-in-requires c κs = c .if1 .left
@@ -84,7 +85,7 @@ returns-2 c =
     let c5 = c4 .before in
     let c6 = c5 .before .before .before in
     rw (c3 .is-text .ensures, c2 .whole-of .ensures, c1 .alone-of .ensures, c4 .fields-in .ensures, c .is-zero .ensures)
-    (is-found (c6 .args .banks .now) (c6 .args .k) (c6 .args .r .now) (c5 .if1 .left))
+    (is-found (foundIn (c6 .args .banks .now)) (c6 .args .k) (c6 .args .r .now) (c5 .if1 .left))
 
 pub found-in-spec : {M : Type 1} → statement M
 found-in-spec =

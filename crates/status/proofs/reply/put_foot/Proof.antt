@@ -11,7 +11,8 @@ use Rattle.text.proofs.At.{PutAt}
 use Rattle.digits.proofs.Figures.{figures-length}
 use Rattle.frame.specs.declared.Totals.{Totals}
 use Rattle.frame.specs.declared.Status.{Status}
-use Rattle.status.specs.Records.{ending, footRecord}
+use Rattle.frame.specs.Records.{ending}
+use Rattle.status.specs.Records.{footRecord}
 use Rattle.status.specs.Writing.{totals}
 use Rattle.status.proofs.Put.{none, after, with-text}
 use borrow.Author.Needs.{needs}

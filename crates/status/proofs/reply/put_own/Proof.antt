@@ -9,7 +9,7 @@ use Rattle.base.specs.Bytes.{over}
 use Rattle.text.proofs.At as text
 use Rattle.digits.proofs.At as digits
 use Rattle.frame.specs.declared.Status.{Status}
-use Rattle.status.specs.Records.{ending}
+use Rattle.frame.specs.Records.{ending}
 use Rattle.status.specs.Writing.{own, Writable}
 use Rattle.status.proofs.Put.{none, with-text, with-number}
 use borrow.Author.Needs.{needs}

@@ -9,7 +9,8 @@ use Rattle.base.specs.Bytes.{ascii, field, over}
 use Rattle.base.proofs.Parts.{part-length}
 use Rattle.text.proofs.At as text
 use Rattle.digits.proofs.At as digits
-use Rattle.status.specs.Records.{ending, reference}
+use Rattle.frame.specs.Records.{ending}
+use Rattle.status.specs.Records.{reference}
 use Rattle.status.proofs.Put.{none, with-text, with-number}
 use borrow.Author.Needs.{needs}
 use Rattle.status.proofs.reply.put_reference.Statement.{statement}

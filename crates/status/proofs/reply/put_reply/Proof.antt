@@ -10,11 +10,11 @@ use borrow.Rule.Slice.PartMut.{putMid}
 use Rattle.base.specs.Bytes.{over}
 use Rattle.frame.specs.Records.{lengths, itemsOf}
 use Rattle.frame.specs.declared.Status.{Status}
+use Rattle.frame.proofs.Cut.{each-item}
 use Rattle.status.specs.Records.{headRecord, references, footRecord, written}
 use Rattle.status.specs.Writing.{Referable}
 use Rattle.status.proofs.Put.{first, after}
 use Rattle.status.proofs.Lengths.{items-take, head-length, references-length, foot-length}
-use Rattle.status.proofs.Bounds.{items-of}
 use borrow.Author.Needs.{needs}
 use Rattle.status.proofs.reply.put_reply.Statement.{statement}
 use Rattle.status.proofs.reply.put_reply.Tie as tie
@@ -29,7 +29,7 @@ module _ (xs m cs : List ℕ) (s : Status) (h : 104 + s .references * 65 ≤ len
   long : length (references 1 cs few) ≡ n * 65
   long =
       let f : length few ≡ n = length-take-le n (itemsOf lengths m) (ok .items) in
-      references-length 1 cs few (omega (arith, f, ok .codes)) (items-take n (itemsOf lengths m) (items-of m)) ∙ omega (arith, f)
+      references-length 1 cs few (omega (arith, f, ok .codes)) (items-take n (itemsOf lengths m) (each-item lengths m)) ∙ omega (arith, f)
 
   whole : (y z u : List ℕ) → y ≡ over xs 0 (headRecord s) → z ≡ over (take (length y - 56) (drop 56 y)) 0 (references 1 cs few)
       → u ≡ over (take (length (putMid 56 (length y - 56) y z) - (56 + n * 65)) (drop (56 + n * 65) (putMid 56 (length y - 56) y z))) 0 (footRecord s)
