@@ -7,8 +7,7 @@ use Prim.Native.Nat.{ℕ, _+_, _*_, _^_, _≤_, _<_}
 use native.Mathlib.Omega.{arith}
 use lib.Dec.{leb}
 use lib.ListN.{length, take, set}
-use borrow.Author.Tests.{leb-true, eq-eqb, ne-eqb, le-leb, lt-leb, lt-ltb, le-ltb}
-use Rattle.base.proofs.Every.{both}
+use borrow.Author.Tests.{eq-eqb, ne-eqb, le-leb, lt-leb, lt-ltb, le-ltb}
 use Rattle.lists.specs.Banks.{foundIn}
 use Rattle.lent.specs.Lent.{Lent}
 use Rattle.frame.specs.declared.Found.{Found}
@@ -194,11 +193,6 @@ countable s t banks k r f y e =
 -- so can the items of a tally that is ready be summed
 pub summed : (s : Tally) (t : List ℕ) → Ready s t → Summed s
 summed s t y = record { items = omega (arith, y .items, y .most); sum = omega (arith, y .items, y .most, y .accepted, y .refused) }
-
--- a record with its ending is longer than it by two
-pub ended-long : (n : ℕ) (x : List ℕ) → ended n x ≡ true → n + 2 ≤ length x
-unfolding ended
-ended-long n x e = leb-true (n + 2) (length x) (both (leb (n + 2) (length x)) _ e .0)
 
 -- a record is judged, by its kind and its ending
 module _ (l : Lent) (t x : List ℕ) (s n : Tally) where

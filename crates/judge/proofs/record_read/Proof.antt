@@ -4,7 +4,8 @@ use mathlib.Core.Path.{sym, _∙_}
 use native.Mathlib.Omega.{arith}
 use Rattle.frame.specs.Records.{lengths}
 use Rattle.lent.specs.Lent.{Lent, lent}
-use Rattle.judge.proofs.Tallies.{ended-long, judge-head, judge-headless, judge-foot, judge-footless, judge-item, judge-itemless}
+use Rattle.frame.proofs.Uncut.{ended-long}
+use Rattle.judge.proofs.Tallies.{judge-head, judge-headless, judge-foot, judge-footless, judge-item, judge-itemless}
 use borrow.Author.Needs.{needs}
 use Rattle.judge.proofs.record_read.Statement.{statement}
 use Rattle.judge.proofs.record_read.Tie as tie
