@@ -188,7 +188,7 @@ class Host:
         return True
 
     def open(self, day, length, sizes):
-        """nsh_open: 11, 1, 4."""
+        """nsh_open: 99, 1, 4."""
         if sizes.session:
             return SIZE
         self.read, self.room, self.given = b"", length, (day, (), b"")
@@ -197,7 +197,7 @@ class Host:
         return refused
 
     def piece(self, new, given, table, sizes):
-        """nsh_piece: 11, 5, 2, 3, 4; and the table afterwards, with the codes of the items that this piece completes."""
+        """nsh_piece: 99, 5, 2, 3, 4; and the table afterwards, with the codes of the items that this piece completes."""
         if sizes.session:
             return SIZE, table
         if not self.is_open():
@@ -212,7 +212,7 @@ class Host:
         return 0, table[:before] + message.judge(self.read, *lists, table)[4][before:]
 
     def close(self, numbers, identifier, sizes):
-        """nsh_close: 11, 5, 6; and the numbers and the identifier afterwards."""
+        """nsh_close: 99, 5, 6; and the numbers and the identifier afterwards."""
         if sizes.session or sizes.numbers or sizes.id:
             return SIZE, numbers, identifier
         if not self.is_open():
