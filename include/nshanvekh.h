@@ -31,8 +31,8 @@ extern "C" {
 
 /* The bytes of stack to leave for a call; a third of them is enough for all but nsh_reply, which keeps 10,000 codes there. This is
    measured on real messages (examples/stack.c), with room to spare, and not proved: the proofs are about a machine whose stack has no
-   end. Not counted is what a loader takes that binds memcpy and memset, the two functions that the library calls, at the first call of
-   each: link with -z now, or leave 4,096 bytes more. */
+   end. Not counted is what a dynamic loader takes that binds memcpy and memset, the two functions that the library calls, at the first
+   call of each: it differs by processor, and 10,872 bytes were met. A program linked with -z now has them bound before it starts. */
 #define NSH_STACK_BYTES 16384
 
 /* Refusals. */
