@@ -1,4 +1,4 @@
-/* Feeds a message to the judge in pieces and prints the slip's four lines.
+/* Feeds a message to the judge in pieces and prints the slip's five lines.
 
        feed FILE SIZE DAY [BANK ..]
 
@@ -53,6 +53,7 @@ static int print(uint32_t number)
         printf("REFUSAL %" PRIu32 "\n", number);
         return 1;
     }
+    printf("KIND %s\n", numbers[6] == NSH_MESSAGE_BESZED ? "BESZED" : "ATUTAL");
     printf("MESSAGE %02" PRIu64 "\n", numbers[0]);
     printf("ACCEPTED %" PRIu64 " %" PRIu64 "\n", numbers[1], numbers[2]);
     printf("REFUSED %" PRIu64 " %" PRIu64 "\n", numbers[3], numbers[4]);

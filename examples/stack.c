@@ -2,10 +2,10 @@
 
        stack FILE ..
 
-   Each FILE is a message for the day and the banks of samples/, of under 65,536 bytes, whose head and first item are right. A call runs
-   on a stack of its own that is painted beforehand: as deep as the paint is gone, so much did the call take, with the few bytes of the
-   functions that make it. The most of each call is printed. Exit status 1, with a line on standard error, where a call gives another
-   answer than it should or takes more stack than the header says; 2 where no file is named or one can't be read. */
+   Each FILE is a message of either kind for the day and the banks of samples/, of under 65,536 bytes, whose head and first item are right.
+   A call runs on a stack of its own that is painted beforehand: as deep as the paint is gone, so much did the call take, with the few bytes
+   of the functions that make it. The most of each call over all files is printed. Exit status 1, with a line on standard error, where a
+   call gives another answer than it should or takes more stack than the header says; 2 where no file is named or one can't be read. */
 #define _XOPEN_SOURCE 700
 #include <stdio.h>
 #include <stdlib.h>
@@ -31,10 +31,10 @@ static uint32_t banks[BANKS];
 static uint64_t closed[NSH_CLOSING_NUMBERS], judged[NSH_CLOSING_NUMBERS], replied[NSH_REPLY_NUMBERS], status[NSH_STATUS_NUMBERS];
 static size_t message_len;
 
-/* A piece, or a single record and its place. */
+/* A piece, or a single record, its place and its message's kind. */
 static const uint8_t *part;
 static size_t part_len;
-static uint32_t place;
+static uint32_t place, kind;
 
 /* The painted stack, the call that is made on it, what the call answers, and the most that each call took. */
 static uint8_t stack[4 * NSH_STACK_BYTES];
@@ -59,7 +59,7 @@ static uint32_t called(void)
         return nsh_judge(message, message_len, DAY, banks, BANKS, known, sizeof known, table, sizeof table, judged, NSH_CLOSING_NUMBERS,
                          other_id, sizeof other_id);
     case SINGLE:
-        return nsh_single(part, part_len, DAY, banks, BANKS, known, sizeof known, place);
+        return nsh_single(part, part_len, DAY, banks, BANKS, known, sizeof known, place, kind);
     case REPLY:
         return nsh_reply(message, message_len, DAY, banks, BANKS, known, sizeof known, '0', NUMBER, TIME, out, sizeof out, replied,
                          NSH_REPLY_NUMBERS);
@@ -120,12 +120,13 @@ static void judge_by_pieces(size_t size)
     make(CLOSE, NSH_DONE);
 }
 
-/* A record of the message alone, at place k. */
+/* A record of the message alone, at place k, by the kind that closing gave. */
 static void judge_singly(size_t from, size_t len, uint32_t k, uint32_t right)
 {
     part = message + from;
     part_len = len;
     place = k;
+    kind = (uint32_t)closed[6];
     make(SINGLE, right);
 }
 

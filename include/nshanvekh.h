@@ -1,4 +1,4 @@
-/* Nshanvekh: the judge of ATUTAL messages, for hosts in C.
+/* Nshanvekh: the judge of ATUTAL and BESZED messages, for hosts in C.
 
    Link libnshanvekh.a (`rt staticlib nshanvekh`). The library has no memory of its own, no heap and no input or output: all that it
    reads and writes is lent for the length of a call. Of C's library it uses memcpy and memset.
@@ -21,7 +21,7 @@ extern "C" {
 
 /* Sizes of buffers, in elements. Buffers of another size are refused with NSH_SIZE before anything else. */
 #define NSH_SESSION_BYTES 344  /* session: uint8_t */
-#define NSH_CLOSING_NUMBERS 6  /* numbers of nsh_close and nsh_judge: uint64_t */
+#define NSH_CLOSING_NUMBERS 7  /* numbers of nsh_close and nsh_judge: uint64_t */
 #define NSH_REPLY_NUMBERS 1    /* numbers of nsh_reply: uint64_t */
 #define NSH_STATUS_NUMBERS 10  /* numbers of nsh_read_status: uint64_t */
 #define NSH_ID_BYTES 25        /* id: uint8_t */
@@ -49,6 +49,11 @@ extern "C" {
 #define NSH_MALFORMED 10   /* the bytes aren't a STATUS message; a single record isn't 174 or 249 bytes */
 #define NSH_SIZE 99        /* a session, numbers or id buffer has another size than above */
 
+/* Kinds of message. A message whose head, 174 bytes with its right ending, has BESZED in its positions 3-8 is BESZED; any other is
+   ATUTAL, the empty one and one that breaks in its head too. */
+#define NSH_MESSAGE_ATUTAL 0
+#define NSH_MESSAGE_BESZED 1
+
 /* What the calls are given:
    day     the clearing day as a number, yyyymmdd
    banks   the bank list, numbers of at most eight digits, strictly ascending
@@ -65,9 +70,9 @@ uint32_t nsh_piece(uint8_t *session, size_t session_len, const uint8_t *bytes, s
                    const uint8_t *known, size_t known_len, uint8_t *table, size_t table_len);
 
 /* The message is over: refusals 99, 5, 6. numbers: message code, accepted count, accepted sum, refused count, refused sum, zero watch
-   (accepted items whose account is all zeros); with a code other than 0 the other five are 0. id: the message's positions 10-34, spaces
-   unless a head with its right ending was read. The buffer then holds a closed session. 6 closes the session too, and leaves numbers
-   and id as they were. */
+   (accepted items whose account is all zeros), kind of message; with a code other than 0 the five after the code are 0, and the kind is
+   given with every code. id: the message's positions 10-34, spaces unless a head with its right ending was read. The buffer then holds a
+   closed session. 6 closes the session too, and leaves numbers and id as they were. */
 uint32_t nsh_close(uint8_t *session, size_t session_len, uint64_t *numbers, size_t numbers_len, uint8_t *id, size_t id_len);
 
 /* A whole message at once: refusals 99, 1, 4, 2, 3, 6. numbers and id as in nsh_close. With 6 the codes of the items that had a byte
@@ -75,11 +80,12 @@ uint32_t nsh_close(uint8_t *session, size_t session_len, uint64_t *numbers, size
 uint32_t nsh_judge(const uint8_t *message, size_t message_len, uint32_t day, const uint32_t *banks, size_t banks_len, const uint8_t *known,
                    size_t known_len, uint8_t *table, size_t table_len, uint64_t *numbers, size_t numbers_len, uint8_t *id, size_t id_len);
 
-/* A single head (174 bytes) or item (249), without its ending. place is the number that an item has to carry; a head takes any.
-   Returns 0 where the record is accepted; below 100 a refusal: 1, 2, 3, 10; else 100 x the field's number + the kind's. A bad letter
-   comes first, then the fields in order, and in a field the first kind. */
+/* A single head (174 bytes) or item (249), without its ending. place is the number that an item has to carry, kind the kind of the message
+   that it comes from: 1 is BESZED, any other number ATUTAL. A head takes any place and any kind; its positions 3-8 tell its own.
+   Returns 0 where the record is accepted; below 100 a refusal: 1, 2, 3, 10; else 100 x the field's number + that of the kind of fault. A
+   bad letter comes first, then the fields in order, and in a field the first kind. */
 uint32_t nsh_single(const uint8_t *record, size_t record_len, uint32_t day, const uint32_t *banks, size_t banks_len, const uint8_t *known,
-                    size_t known_len, uint32_t place);
+                    size_t known_len, uint32_t place, uint32_t kind);
 
 /* Fields, answer / 100. */
 #define NSH_FIELD_TYPE 1
@@ -100,6 +106,7 @@ uint32_t nsh_single(const uint8_t *record, size_t record_len, uint32_t day, cons
 #define NSH_FIELD_CUSTOMER_ID 16
 #define NSH_FIELD_ADDRESS 17
 #define NSH_FIELD_OWNER 18
+#define NSH_FIELD_DUE_DATE 19
 
 /* Kinds of fault, answer % 100. */
 #define NSH_KIND_LETTER 1

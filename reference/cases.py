@@ -3,13 +3,15 @@
     python3 reference/cases.py > crates/trial/stdin
 
 Prints the script that trial.py describes, the same each time: chance comes from
-a seed. Values and places are from document 01, docs/CODES.md and, for a session's
-bytes, docs/SESSION.md. Each case changes a base text a little: a good message of 1
-to 5 items, a good head or item, or a right STATUS. The file `written` beside this one
-follows, cases written by hand; there the base text is a message of one item in
+a seed. Values and places are from documents 01 and 02, docs/CODES.md and, for a
+session's bytes, docs/SESSION.md. Each case changes a base text a little: a good
+message of 1 to 5 items, a good head or item, or a right STATUS; first of ATUTAL, then
+of BESZED. The file `written` beside this one follows, cases written by hand; there the
+base text is a message of one item in
 
-    h   the line s of its head, and the line j of the message, both with these changes
-    i   the same of its item
+    h   the line s of its head, and the line j of the message, both with these changes;
+        the head alone comes with the number of the kind that the base isn't
+    i   the same of its item, which comes with the number of the base's kind
 
 and any message of up to 9,999 bytes in
 
@@ -24,9 +26,11 @@ import sys
 
 sys.dont_write_bytecode = True  # no folder of compiled files beside the sources
 
+import script
 import session
 import status
 
+KINDS = ATUTAL, BESZED = b"ATUTAL", b"BESZED"  # 02 #101; in the order of their numbers in C
 E = 20200310
 BANKS = (1203457, 12345676, 16000009, 16000010, 44102036, 61000009, 99001203)
 KNOWN = (b"A12345676T001202003010002", b"5990000000009202003010007")
@@ -61,8 +65,8 @@ chance = Chance(1)
 # Base texts
 
 
-def head(date=20200301, debit=20200310):
-    text = b"01ATUTAL0A12345676T001%08d0001160000091002003045678909%08dMUN" % (date, debit)
+def head(kind=ATUTAL, date=20200301, debit=20200310):
+    text = b"01%s0A12345676T001%08d0001160000091002003045678909%08dMUN" % (kind, date, debit)
     return text + b"Minta \x90p\xa1t\x8b Kft.".ljust(35) + b"m\xa0rciusi munkab\x82r".ljust(70)
 
 
@@ -82,10 +86,10 @@ ITEMS = (
 )
 
 
-def records(n):
-    """The records of a good message of n items."""
+def records(n, kind=ATUTAL):
+    """The records of a good message of n items; what is good in one kind is here good in both."""
     items = [item(k, *ITEMS[k - 1]) for k in range(1, n + 1)]
-    return [head()] + items + [b"03%06d%016d" % (n, sum(amount for amount, _ in ITEMS[:n]))]
+    return [head(kind)] + items + [b"03%06d%016d" % (n, sum(amount for amount, _ in ITEMS[:n]))]
 
 
 def joined(parts):
@@ -159,6 +163,24 @@ ITEM_VALUES = [
     letters(145, 179),
     letters(180, 249),
 ]
+# Values that count in a BESZED (002 2.1.1 and 2.3.1); those of ATUTAL come beside them, but for most letters.
+BESZED_HEAD_VALUES = [
+    *(values for values in HEAD_VALUES if len(values) < 40),
+    placed(3, [b"ATUTAL", b"BESZEd", b"bESZED", b"BESZE ", b"\xffESZED"]),
+    placed(9, [b"@", b"5"]),
+    placed(10, [b"E12345676    ", b"E16000009    ", b"E00000000    ", b"E12345677    ", b"E12345676   ", b"E12345676   0", b" E12345676   "]),
+    placed(10, [b"e12345676    ", b"B12345676    ", b"E1234567     ", b"E12345676T001", b"A12345676    ", b"E1234567600  ", b"E            "]),
+    placed(59, [b" " * 8, b"0" * 8, b"20190229", b"\r\n\x00\x7f\x80\xff\r\n", b"20200309", b"99991231"]),
+    placed(70, [b"0" * 35, b"0 " * 17 + b"0", b"0" * 34 + b" ", b"0" * 34 + b"1", b" " * 34 + b"\x80"]),
+    placed(70, [b"\x80", b"\x81"]) + placed(174, [b"\x7f", b"\xfb"]),
+]
+BESZED_ITEM_VALUES = [
+    *(values for values in ITEM_VALUES if len(values) < 40),
+    placed(9, dates(E, -366, -1, 0, 1, 4, 5, 8, 9, 10) + NO_DATES),
+    placed(9, dates(E, 11, 12, 13, 14, 366) + [b"99991231", b"00010101", b"\xff" * 8, b"0" * 8]),
+    placed(51, [b"\x80", b"\x81"]) + placed(249, [b"\x7f", b"\xfb"]),
+]
+VALUES = {ATUTAL: (HEAD_VALUES, ITEM_VALUES), BESZED: (BESZED_HEAD_VALUES, BESZED_ITEM_VALUES)}
 
 
 def foot_values(n):
@@ -186,10 +208,11 @@ def change(start, value):
     return start + first - 1, len(new), new
 
 
-def field_change(n):
+def field_change(n, kind=ATUTAL):
     """Any field of any record, head, item or foot, of a message of n items."""
     record = chance.of((0, 0, n + 1, *range(1, n + 1)))
-    fields = HEAD_VALUES if record == 0 else foot_values(n) if record == n + 1 else ITEM_VALUES
+    head_values, item_values = VALUES[kind]
+    fields = head_values if record == 0 else foot_values(n) if record == n + 1 else item_values
     return change(starts(n)[record], at_chance(fields))
 
 
@@ -271,8 +294,9 @@ def message_case(n, changes, table=None):
     line(b"j", b"%05d " % length + lengths(cuts(n)) + written(changes))
 
 
-def single_case(k, changes):
-    line(b"s", b"%010d" % k + written(changes))
+def single_case(k, changes, number=0):
+    """An s line; the number is that of the kind."""
+    line(b"s", b"%010d %010d" % (k, number) + written(changes))
 
 
 def status_case(length, changes):
@@ -298,29 +322,34 @@ DAYS = (20200229, 20200301, 20210105, 20000315, 19000310, 10101, 10110, 99991231
 # The cases
 
 
-def messages_alone():
+def begin(n, kind, text):
+    """The comment and the base text of cases on a message of n items."""
+    comment("%s of %d items: %s" % ("messages" if kind == ATUTAL else "BESZED messages", n, text))
+    base(records(n, kind))
+
+
+def messages_alone(kind=ATUTAL):
     """Every value of every field alone: those of the head and of an item once, in turn over the five lengths."""
     flat = lambda fields: [value for values in fields for value in values]
+    head_values, item_values = VALUES[kind]
     for n in range(1, 6):
-        comment("messages of %d items: good, each value of a field alone" % n)
-        base(records(n))
+        begin(n, kind, "good, each value of a field alone")
         message_case(n, [])
-        for value in flat(HEAD_VALUES)[n - 1 :: 5]:
+        for value in flat(head_values)[n - 1 :: 5]:
             message_case(n, [change(0, value)])
-        for value in flat(ITEM_VALUES)[n - 1 :: 5]:
+        for value in flat(item_values)[n - 1 :: 5]:
             message_case(n, [change(starts(n)[1 + chance.under(n)], value)])
         for value in flat(foot_values(n)):
             message_case(n, [change(starts(n)[n + 1], value)])
 
 
-def messages_broken():
-    for n in (1, 2, 4):
-        comment("messages of %d items: breaks at every kind of place, alone and after another fault" % n)
-        base(records(n))
+def messages_broken(kind, *sizes):
+    for n in sizes:
+        begin(n, kind, "breaks at every kind of place, alone and after another fault")
         for found in break_changes(n):
             message_case(n, [found])
             if chance.under(2):
-                message_case(n, [found, field_change(n)], chance.of((n, n, 0, 1)))
+                message_case(n, [found, field_change(n, kind)], chance.of((n, n, 0, 1)))
 
 
 # One fault for each code in rank order: the record (0 the head, 2 the second item, -2 the foot) and the value.
@@ -335,39 +364,42 @@ RANKED = [
 ]
 
 
-def messages_in_pairs():
-    """Each two of the faults; those of an item stand in two items where both are of one."""
-    comment("messages of 3 items: each two faults that have a code")
-    base(records(3))
+# Faults of a BESZED that ATUTAL hasn't, or has otherwise; and a notification date, which has none.
+BESZED_RANKED = [
+    *((0, value) for value in ((9, b"@"), (10, b"E12345677    "), (59, b"\r\n 0Z\x80\xff0"), (70, b"0" * 35))),
+    (2, (9, b"20200321")),
+]
+
+
+def messages_in_pairs(kind, ranked, own):
+    """Each two of the faults, one of them an own one; those of an item stand in two items where both are of one."""
+    begin(3, kind, "each two faults that have a code")
     at = starts(3)
-    for k, (record, value) in enumerate(RANKED):
-        for other, later in RANKED[:k]:
+    for k, (record, value) in enumerate(ranked + own):
+        for other, later in (ranked + own)[:k] if k >= len(ranked) else ():
             place = other if other < 1 else chance.of((1, 3, 2))
             message_case(3, [change(at[record], value), change(at[place], later)])
 
 
-def messages_in_rank(count):
+def messages_in_rank(count, kind=ATUTAL):
     for n in range(1, 6):
-        comment("messages of %d items: two to four faults, the first in rank decides" % n)
-        base(records(n))
+        begin(n, kind, "two to four faults, the first in rank decides")
         for _ in range(count):
-            message_case(n, [field_change(n) for _ in range(2 + chance.under(3))])
+            message_case(n, [field_change(n, kind) for _ in range(2 + chance.under(3))])
 
 
-def messages_overflowing():
-    for n in range(1, 6):
-        comment("messages of %d items: tables of every length around that, the longest and one byte more" % n)
-        base(records(n))
+def messages_overflowing(kind, *sizes):
+    for n in sizes:
+        begin(n, kind, "tables of every length around that, the longest and one byte more")
         for length in (*range(n + 2), 10000, 10001):
             message_case(n, [], length)
-            message_case(n, [field_change(n)], length)
-            message_case(n, [field_change(n), chance.of(break_changes(n))], length)
+            message_case(n, [field_change(n, kind)], length)
+            message_case(n, [field_change(n, kind), chance.of(break_changes(n))], length)
 
 
-def messages_damaged(count):
+def messages_damaged(count, kind=ATUTAL):
     for n in range(1, 6):
-        comment("messages of %d items: random damage, random ends" % n)
-        base(records(n))
+        begin(n, kind, "random damage, random ends")
         for _ in range(count):
             message_case(n, [damage(starts(n)[-1]) for _ in range(1 + chance.under(4))])
             if chance.under(3) == 0:
@@ -414,6 +446,27 @@ def messages_by_days():
     given()
 
 
+# Each day of the week as E, then days near the end of a year and of the calendar.
+DUE_DAYS = (*range(20200309, 20200316), 20200229, 20201221, 10101, 99991220, 99991221, 99991222, 99991231)
+
+
+def messages_by_due_dates():
+    """E+8 is ten to twelve days after E, or beyond the calendar: days around E and around it, five in a message, and alone."""
+    begin(5, BESZED, "each day of the week as E, due dates around it and around E+8")
+    for day in DUE_DAYS:
+        line(b"E", b"%08d" % day)
+        for steps in ((-1, 0, 1, 4, 5), (9, 10, 11, 12, 13)):
+            due = [change(start, (9, value)) for start, value in zip(starts(5)[1:], dates(day, *steps))]
+            message_case(5, [change(0, (23, b"%08d" % day)), *due], 5)
+    comment("a single BESZED item: each day of the week as E, due dates around it and around E+8")
+    base([records(1, BESZED)[1]], endings=False)
+    for day in DUE_DAYS:
+        line(b"E", b"%08d" % day)
+        for value in dates(day, -1, 0, 9, 10, 11, 12, 13):
+            single_case(1, [change(0, (9, value))], 1)
+    given()
+
+
 def replies_by_particulars():
     base(records(3))
     comment("three items: particulars and outputs, right and wrong, the references' refusals before")
@@ -440,24 +493,45 @@ def particulars_case(duplicate, number, time, room):
     message_case(3, [change(0, (10 + chance.under(25), chance.of((b"\x1f", b"\x7f", b"\x80", b"\r", b"~", b" "))))])
 
 
-def singles(count):
-    for record, fields, name in ((records(1)[0], HEAD_VALUES, "head"), (records(1)[1], ITEM_VALUES, "item")):
+def singles(count, kind=ATUTAL):
+    number = KINDS.index(kind)
+    for record, fields, name in zip(records(1, kind), VALUES[kind], ("head", "item")):
         base([record], endings=False)
-        comment("a single %s: each value, places, two and three faults, damage, other lengths" % name)
+        of = "" if kind == ATUTAL else "BESZED "
+        comment("a single %s%s: each value, places, two and three faults, damage, other lengths" % (of, name))
         for values in fields:
             for value in values if len(values) < 40 else values[chance.under(2) :: 2]:
-                single_case(1, [change(0, value)])
+                single_case(1, [change(0, value)], number)
         for k in (0, 1, 2, 999999, 1000000, 2147483648, 4294967294, 4294967295):
-            single_case(k, [])
-            single_case(k, [change(0, (3, b"%06d" % (k % 1000000)))] if name == "item" else [])
+            single_case(k, [], number)
+            single_case(k, [change(0, (3, b"%06d" % (k % 1000000)))] if name == "item" else [], number)
         for _ in range(count):
-            single_case(1, [change(0, at_chance(fields)) for _ in range(2 + chance.under(2))])
+            single_case(1, [change(0, at_chance(fields)) for _ in range(2 + chance.under(2))], number)
         for _ in range(count // 2):
-            single_case(1, [damage(len(record))])
+            single_case(1, [damage(len(record))], number)
         for text in (b"", b"0", b"\r\n"):
-            single_case(1, [(len(record), 0, text)])
-            single_case(1, [(len(record) - 1, 1, text)])
-        single_case(1, [(0, 9999, b"")])
+            single_case(1, [(len(record), 0, text)], number)
+            single_case(1, [(len(record) - 1, 1, text)], number)
+        single_case(1, [(0, 9999, b"")], number)
+
+
+# Numbers of a kind: that of each, the next one, and some of which a part is 1.
+NUMBERS = (0, 1, 2, 257, 2147483649, 4294967295)
+
+
+def singles_of_any_kind():
+    """1 is BESZED, any other number ATUTAL; of a head the number isn't looked at."""
+    comment("a single item: the number of each kind, and others")
+    base([records(1)[1]], endings=False)
+    for number in NUMBERS:
+        for value in ((9, b"20200309"), (9, b"2020031 "), (9, b"20200320"), (17, b"0000000000"), (51, b"\x80"), (1, b"01")):
+            single_case(1, [change(0, value)], number)
+    comment("a single head of each kind, with any number")
+    for kind in KINDS:
+        base([records(1, kind)[0]], endings=False)
+        for value in ((1, b"01"), (3, b"BESZED"), (3, b"ATUTAL"), (9, b"@"), (10, b"E12345676    "), (59, b" " * 8), (70, b"0" * 35)):
+            for number in (0, 1, chance.of(NUMBERS[2:])):
+                single_case(chance.under(3), [change(0, value)], number)
 
 
 def singles_given():
@@ -510,9 +584,9 @@ STATUS_FOOT = [
 ]
 
 
-def message_of(n, changes):
+def message_of(n, changes, kind=ATUTAL):
     """The message of n items with these changes."""
-    text = joined(records(n))
+    text = joined(records(n, kind))
     for place, gone, new in reversed(ascending(changes)):
         text = text[:place] + new + text[place + gone :]
     return text
@@ -659,7 +733,7 @@ def numbers_out_of_range(real):
         *((2, 1, letter) for letter in (2, 255)),
         *((3, 1, code) for code in (100, 255)),
         *((4, 4, day) for day in (0, 20200230)),
-        *((8, 4, told) for told in (1, 2**31)),
+        *((8, 4, told) for told in (2, 2**31)),
         *((12, 8, length) for length in (10001, 2**64 - 1)),
         *((20, 8, count) for count in (room - refused + 1, 2**64 - refused)),
         *((28, 8, total) for total in (9999999999 * accepted + 1, 2**64 - 1)),
@@ -670,13 +744,16 @@ def numbers_out_of_range(real):
     ]
 
 
-def calls_on_damaged_sessions():
+SECOND = [change(starts(3)[2], (51, b"0" * 24))]  # the second item of three is refused
+
+
+def calls_on_damaged_sessions(kind, *sessions):
     """Each number out of its range, one at a time; put right again, the session goes on."""
-    base(records(3))
-    second = [change(starts(3)[2], (51, b"0" * 24))]  # the second item is refused
-    for cut, changes, room in ((0, [], 3), (100, [], 3), (178, second, 3), (700, second, 5), (940, [], 3), (955, second, 3)):
-        comment("three items, %d bytes read: bytes that are no session's, or out of range: 5" % cut)
-        real = session.of(message_of(3, changes)[:cut], room, *GIVEN)
+    base(records(3, kind))
+    for cut, changes, room in sessions:
+        of = "" if kind == ATUTAL else " of BESZED"
+        comment("three items%s, %d bytes read: bytes that are no session's, or out of range: 5" % (of, cut))
+        real = session.of(message_of(3, changes, kind)[:cut], room, *GIVEN)
         opened(room)
         taken(room, 0, cut, changes)
         for place, width, number in numbers_out_of_range(real):
@@ -692,13 +769,38 @@ def calls_on_damaged_sessions():
         closed()
 
 
-def calls_after_refused_pieces(count):
+def told_bytes(number):
+    return number.to_bytes(4, "little")
+
+
+def calls_with_kinds_put_in():
+    """docs/SESSION.md: bytes 8-11 are the kind, 0 or 1. Items go by it and the closing gives it; before the head any of the two
+    gives way to what the head tells."""
+    late = [change(starts(2)[2], (9, b"20200309"))]  # the second item is refused in a BESZED
+    for kind in KINDS:
+        base(records(2, kind))
+        for cut in (100, 176, 300):
+            comment("two items of %s, %d bytes read: the other kind put in, then numbers that are none: 5" % (kind.decode(), cut))
+            own = KINDS.index(kind) if cut >= 176 else 0
+            opened(2)
+            taken(2, 0, cut, late)
+            put(8, told_bytes(own), told_bytes(1 - own))
+            for number in (2, 3, 256, 257, 2**16, 2**24, 2**32 - 1):
+                put(8, told_bytes(1 - own), told_bytes(number))
+                taken(2, cut, 9999, late)
+                closed()
+                put(8, told_bytes(number), told_bytes(1 - own))
+            taken(2, cut, 9999, late)
+            closed()
+
+
+def calls_after_refused_pieces(count, kind, *sizes):
     """Pieces refused with 2, 3 and 4 alter nothing: the message ends as if they hadn't been."""
-    for n in range(1, 6):
-        comment("messages of %d items: a refused piece before each piece, another E after the opening" % n)
-        base(records(n))
+    for n in sizes:
+        begin(n, kind, "a refused piece before each piece, another E after the opening")
         for _ in range(count):
-            changes = chance.of(([], [field_change(n)], [field_change(n), field_change(n)], [chance.of(break_changes(n))]))
+            one, two = ([field_change(n, kind) for _ in range(times)] for times in (1, 2))
+            changes = chance.of(([], one, two, [chance.of(break_changes(n))]))
             room, at = chance.of((n, n, n + 1, n - 1)), 0
             opened(room)
             for cut in [*cuts(n), 9999]:
@@ -738,27 +840,29 @@ def unmoved(rest, day, banks, known):
         line(letter, words)
 
 
-def alone_and_inside(start, end, rest):
-    """The record between these places as a single one, and the message. Changes after the record, of the foot, are the message's alone."""
-    own = [change for change in rest[1:].split() if int(change[:4]) < end]
+def alone_and_inside(number, start, end, rest):
+    """The record between these places as a single one, and the message. Changes outside the record are the message's alone."""
+    own = [change for change in rest[1:].split() if start <= int(change[:4]) < end]
     before = [b"0000%04d" % start] if start else []
-    line(b"s", b"0000000001| " + b" ".join([*before, *own, b"%04d9999" % end]))
+    line(b"s", b"0000000001 %010d| " % number + b" ".join([*before, *own, b"%04d9999" % end]))
     line(b"j", b"00001 0000" + rest)
 
 
 def hand_written():
-    held = {}
+    held, base_text = {}, b""
     for text in pathlib.Path(__file__).with_name("written").read_bytes().split(b"\n")[:-1]:
         letter, rest = text[:1], text[2:]
         held[letter] = rest
         if letter == b"u":
             unmoved(rest, held[b"E"], held[b"B"], held[b"K"])
         elif letter == b"h":
-            alone_and_inside(0, 174, rest)
+            alone_and_inside(int(base_text[2:8] != BESZED), 0, 174, rest)
         elif letter == b"i":
-            alone_and_inside(176, 425, rest)
+            alone_and_inside(int(base_text[2:8] == BESZED), 176, 425, rest)
         else:
             line(letter, rest)
+            if letter in b"M-/+*":
+                base_text = script.built(base_text, letter, rest)
 
 
 def main():
@@ -767,10 +871,10 @@ def main():
     given()
     line(b"P", PARTICULARS)
     messages_alone()
-    messages_broken()
-    messages_in_pairs()
+    messages_broken(ATUTAL, 1, 2, 4)
+    messages_in_pairs(ATUTAL, [], RANKED)
     messages_in_rank(80)
-    messages_overflowing()
+    messages_overflowing(ATUTAL, 1, 2, 3, 4, 5)
     messages_damaged(80)
     messages_given()
     messages_by_days()
@@ -780,8 +884,21 @@ def main():
     statuses(40)
     calls_without_session()
     calls_of_wrong_size()
-    calls_on_damaged_sessions()
-    calls_after_refused_pieces(6)
+    calls_on_damaged_sessions(ATUTAL, (0, [], 3), (100, [], 3), (178, SECOND, 3), (700, SECOND, 5), (940, [], 3), (955, SECOND, 3))
+    calls_after_refused_pieces(6, ATUTAL, 1, 2, 3, 4, 5)
+    comment("BESZED")
+    messages_alone(BESZED)
+    messages_broken(BESZED, 2)
+    messages_in_pairs(BESZED, RANKED, BESZED_RANKED)
+    messages_in_rank(12, BESZED)
+    messages_overflowing(BESZED, 1, 3)
+    messages_damaged(16, BESZED)
+    messages_by_due_dates()
+    singles(16, BESZED)
+    singles_of_any_kind()
+    calls_on_damaged_sessions(BESZED, (100, [], 3), (178, SECOND, 3))
+    calls_with_kinds_put_in()
+    calls_after_refused_pieces(2, BESZED, 1, 3)
     hand_written()
 
 

@@ -2,8 +2,8 @@
 
     python3 reference/leaves.py < crates/leaves/stdin
 
-Written from document 01 and the standard 002 alone, not from the code that is
-held to it. Each input line is a command letter, a space and the rest as raw
+Written from documents 01 and 02 and the standard 002 alone, not from the code
+that is held to it. Each input line is a command letter, a space and the rest as raw
 bytes; each output line is the input line, a tab and the answers, each after a
 space. In the input, a `t` line that starts with ## is a heading: it says what the
 lines after it try, and is itself tried as text. An account is 0 good, 1 of a bad
@@ -139,12 +139,26 @@ def date_field(field):
     return [3 if len(field) == 8 and all_digits(field) else 2]
 
 
+def due(first, last):
+    """02 #101; 002 section 2.3.1 note 1: not before E, and at most eight workdays later.
+
+    Stepped day by day from E, which isn't counted, to the day asked for: a step
+    that starts on the eighth workday goes too far. Saturday and Sunday, the
+    weekdays 5 and 6, are no workdays. No date comes after 99991231, so no step does.
+    """
+    day, workdays = first, 0
+    while day < last and workdays < 8:
+        day += datetime.timedelta(days=1)
+        workdays += day.weekday() < 5
+    return day == last
+
+
 def window(first, last, days):
-    """01 "Faults of the whole message" 3, date; 002 section 1.1.1 notes 2 and 4."""
+    """01 "Faults of the whole message" 3, date; 002 section 1.1.1 notes 2 and 4. Last, whether the second is a due date, E the first."""
     first, last = date(first), date(last)
     if first is None or last is None:
-        return [False, False]
-    return [0 <= (last - first).days <= days, first < last]
+        return [False, False, False]
+    return [0 <= (last - first).days <= days, first < last, due(first, last)]
 
 
 # Lists

@@ -1,7 +1,7 @@
 """Judging a whole message, by definition.
 
-Written from document 01 and the standard 002 alone, not from the code that is
-held to it. The message is taken whole: nothing here knows of pieces. E is a
+Written from documents 01 and 02 and the standard 002 alone, not from the code that
+is held to it. The message is taken whole: nothing here knows of pieces. E is a
 number, the bank list is a list of numbers; the message, the known list and the
 code table are bytes. The rules of the fields are in rules.py.
 """
@@ -56,9 +56,9 @@ def cut(message):
 
 
 @lru_cache(maxsize=None)
-def judge_item(record, k, banks):
+def judge_item(record, k, day, banks, told):
     """rules.judge_item; the same item comes in many messages, and is judged once."""
-    return rules.judge_item(record, k, banks)
+    return rules.judge_item(record, k, day, banks, told)
 
 
 def verdict(head, items, foot):
@@ -112,27 +112,30 @@ def refusal(day, banks, known, table):
 # The whole
 
 
-def judge(message, day, banks, known, table):
-    """(refusal or 0, code, five numbers, identifier, the table afterwards).
+def judge(message, day, banks, known, table, told=None):
+    """(refusal or 0, code, five numbers, kind, identifier, the table afterwards).
 
-    01 "Calls and their answers". A refusal gives its number alone: the code and
-    the numbers beside it are 0 and the identifier is spaces. Refusals 1 to 4
-    leave the table as it was; an overflow, 6, leaves in it the codes that had
-    a byte.
+    01 "Calls and their answers"; 02 #101 for the kind, which comes with every code.
+    A refusal gives its number alone: the code and the numbers beside it are 0, the
+    kind is ATUTAL and the identifier is spaces. Refusals 1 to 4 leave the table as
+    it was; an overflow, 6, leaves in it the codes that had a byte. Where a kind is
+    told, items are judged by it and not by what the head tells: a host may have put
+    it into a session.
     """
     zeros = (0, 0, 0, 0, 0)
     refused = refusal(day, banks, known, table)
     if refused:
-        return refused, 0, zeros, NO_IDENTIFIER, table
+        return refused, 0, zeros, rules.ATUTAL, NO_IDENTIFIER, table
     head, items, foot = cut(message)
-    judged = [judge_item(item, k, tuple(banks)) for k, item in enumerate(items, 1)]
+    kind = rules.message_kind(head) if told is None else told
+    judged = [judge_item(item, k, day, tuple(banks), kind) for k, item in enumerate(items, 1)]
     after = table_after(table, [item[2] for item in judged])
     # 01, refusal 6: more complete items before any break than the table.
     if len(items) > len(table):
-        return 6, 0, zeros, NO_IDENTIFIER, after
+        return 6, 0, zeros, rules.ATUTAL, NO_IDENTIFIER, after
     # 01 "Faults of the whole message" 1: a break ranks first.
     if foot is None:
-        return 0, BREAK, zeros, identifier(head), after
+        return 0, BREAK, zeros, kind, identifier(head), after
     total = sum(item[3] for item in judged)
     code = verdict(
         rules.judge_head(head, day, banks, known),
@@ -140,4 +143,4 @@ def judge(message, day, banks, known, table):
         rules.judge_foot(foot, len(items), total),
     )
     # 01, closing: with a code other than 00 the five numbers are 0.
-    return 0, code, zeros if code else numbers(judged), identifier(head), after
+    return 0, code, zeros if code else numbers(judged), kind, identifier(head), after

@@ -1,13 +1,14 @@
 """The field rules of head, item and foot, and the answer on a single record.
 
-Written from document 01 and the standard 002 alone, not from the code that is
-held to it. What 01 leaves open is decided as in docs/CODES.md. Records are bytes
+Written from documents 01 and 02 and the standard 002 alone, not from the code that
+is held to it. What they leave open is decided as in docs/CODES.md. Records are bytes
 without their ending; E, k, count and total are numbers, the bank list is a list
 of numbers, the known list is bytes. A rule answers with the kind of fault it
 finds in its field, or with None.
 """
 
-from functools import partial
+import datetime
+from functools import lru_cache, partial
 
 import leaves
 from leaves import all_digits, check_digit, date, number
@@ -15,6 +16,9 @@ from leaves import all_digits, check_digit, date, number
 # 01 "Records": lengths without the ending.
 HEAD, ITEM, FOOT = 174, 249, 24
 BREAK = 26
+
+# 02 #101: the kinds of a message, by their numbers in include/nshanvekh.h.
+ATUTAL, BESZED = 0, 1
 
 # 01 "Calls and their answers": the kinds, in its order.
 LETTER = b"letter"
@@ -41,7 +45,7 @@ ITEM_TEXT = (
     (b"remark", 180, 249),
 )
 
-# 002 1.3.1, rows marked Ü and rows marked T: the code by field and kind.
+# 002 1.3.1 and 2.3.1, rows marked Ü and rows marked T: the code by field and kind.
 MESSAGE_CODES = {
     (b"type", MARK): 46,
     (b"amount", NOT_DIGITS): 34,
@@ -49,6 +53,9 @@ MESSAGE_CODES = {
 ITEM_CODES = {
     (b"item-number", NOT_DIGITS): 39,
     (b"item-number", OUT_OF_ORDER): 32,
+    (b"due-date", NOT_DIGITS): 33,
+    (b"due-date", NO_DATE): 33,
+    (b"due-date", OUTSIDE_DAYS): 33,
     (b"amount", BLANK_OR_ZERO): 16,
     (b"bank", NOT_DIGITS): 37,
     (b"bank", CHECK_DIGIT): 37,
@@ -65,6 +72,11 @@ def at(record, first, last):
     return record[first - 1 : last]
 
 
+def message_kind(head):
+    """02 #101: BESZED in head positions 3-8 makes a BESZED, all else is ATUTAL; so is a message without a complete head."""
+    return BESZED if head is not None and at(head, 3, 8) == b"BESZED" else ATUTAL
+
+
 # Rules that several fields share
 
 
@@ -74,7 +86,7 @@ def unless(right, kind):
 
 
 def bank(field, banks):
-    """01 "Digits and dates"; 002 1.1.1 F215.1 and 1.3.1 T214.1."""
+    """01 "Digits and dates"; 002 1.1.1 and 2.1.1 F215.1, 1.3.1 and 2.3.1 T214.1."""
     if not all_digits(field):
         return NOT_DIGITS
     if not check_digit(field):
@@ -83,7 +95,7 @@ def bank(field, banks):
 
 
 def account(field):
-    """01 "Digits and dates"; 002 1.1.1 F215.2 and 1.3.1 T214.2."""
+    """01 "Digits and dates"; 002 1.1.1 and 2.1.1 F215.2, 1.3.1 and 2.3.1 T214.2."""
     return {b"good": None, b"form": FORM, b"check": CHECK_DIGIT}[leaves.account(field)]
 
 
@@ -99,12 +111,12 @@ def clearing_day(day):
     return date(b"%08d" % day)
 
 
+def empty(field):
+    """002 1.3.1 note 3, 2.1.1 and 2.3.1 note 4: not only spaces and/or zeros."""
+    return unless(not leaves.only(field, b" 0"), BLANK_OR_ZERO)
+
+
 # Rules of the head
-
-
-def duplicate_code(field):
-    """01 "Faults of the whole message" 3; 002 1.1.1 F212."""
-    return unless(all_digits(field) or field == b"@", MARK)
 
 
 def initiator(field):
@@ -117,13 +129,20 @@ def initiator(field):
     return FORM
 
 
+def collector(field):
+    """002 2.1 F213: ATUTAL's two forms, or E, eight digits good by annex 6 and four spaces (Ebbbsssss)."""
+    if field[0:1] == b"E" and all_digits(field[1:9]) and field[9:13] == b" " * 4:
+        return unless(check_digit(field[1:9]), CHECK_DIGIT)
+    return initiator(field)
+
+
 def identifier(field, known):
-    """01 "The job" and "Faults of the whole message" 3; 002 1.1.1 note 1."""
+    """01 "The job" and "Faults of the whole message" 3; 002 1.1.1 and 2.1.1 note 1."""
     return unless(not leaves.known_list(field, known)[1], KNOWN)
 
 
 def compiled(field, day):
-    """01 "Faults of the whole message" 3, date: E-15 to E; 002 1.1.1 note 2.
+    """01 "Faults of the whole message" 3, date: E-15 to E; 002 1.1.1 and 2.1.1 note 2.
 
     Where E is no date the record is refused or not asked for; no day is inside.
     """
@@ -147,65 +166,141 @@ def debit_date(field, day, compiled_on):
     return unless(c is None or 0 <= (debit - c).days <= 10, OTHER)
 
 
-def head_fields(record, day, banks, known):
-    """01 "Faults of the whole message" 3, its order; 002 1.1.1.
+def head_type(field):
+    """002 1.1.1 and 2.1.1 F210, a row of head_fields."""
+    return b"type", 41, unless(field == b"01", MARK)
 
-    Each row: the field, its code, the kind of fault found in it or None.
-    """
-    f = partial(at, record)
+
+def purpose(field):
+    """002 1.1.1 and 2.1.1 F217, a row of head_fields."""
+    return b"purpose", 48, unless(field in leaves.PURPOSES, NOT_LISTED)
+
+
+def identifier_to_account(f, day, banks, known):
+    """The rows of head_fields that 002 1.1.1 and 2.1.1 have alike, from the initiator on; f gives a field by its positions."""
     return (
-        (b"type", 41, unless(f(1, 2) == b"01", MARK)),
-        (b"message-type", 9, unless(f(3, 8) == b"ATUTAL", MARK)),
-        (b"duplicate-code", 42, duplicate_code(f(9, 9))),
-        (b"initiator", 43, initiator(f(10, 22))),
         (b"identifier", 29, identifier(f(10, 34), known)),
         (b"date", 44, compiled(f(23, 30), day)),
         (b"number", 2, unless(all_digits(f(31, 34)), NOT_DIGITS)),
         (b"bank", 1, bank(f(35, 42), banks)),
         (b"account", 45, account(f(43, 58))),
+    )
+
+
+def atutal_head(f, day, banks, known):
+    """01 "Faults of the whole message" 3, its order; 002 1.1.1."""
+    return (
+        head_type(f(1, 2)),
+        (b"message-type", 9, unless(f(3, 8) == b"ATUTAL", MARK)),
+        (b"duplicate-code", 42, unless(all_digits(f(9, 9)) or f(9, 9) == b"@", MARK)),
+        (b"initiator", 43, initiator(f(10, 22))),
+        *identifier_to_account(f, day, banks, known),
         (b"debit-date", 7, debit_date(f(59, 66), day, f(23, 30))),
-        (b"purpose", 48, unless(f(67, 69) in leaves.PURPOSES, NOT_LISTED)),
+        purpose(f(67, 69)),
         (b"name", 43, unless(not leaves.only(f(70, 104), b" "), BLANK_OR_ZERO)),
     )
+
+
+def beszed_head(f, day, banks, known):
+    """002 2.1.1, its order. 09 can't occur, and the notification date (59-66) isn't in it."""
+    return (
+        head_type(f(1, 2)),
+        (b"duplicate-code", 42, unless(all_digits(f(9, 9)), MARK)),
+        (b"initiator", 43, collector(f(10, 22))),
+        *identifier_to_account(f, day, banks, known),
+        purpose(f(67, 69)),
+        (b"name", 43, empty(f(70, 104))),
+    )
+
+
+def head_fields(record, day, banks, known):
+    """The rules of the kind that the head itself tells (02 #101).
+
+    Each row: the field, its code, the kind of fault found in it or None.
+    """
+    table = {ATUTAL: atutal_head, BESZED: beszed_head}[message_kind(record)]
+    return table(partial(at, record), day, banks, known)
 
 
 # Rules of an item
 
 
+@lru_cache(maxsize=None)
+def workday(e, count):
+    """The so-many-th Monday to Friday after a day, which isn't counted itself; None where the calendar ends before it."""
+    day = e
+    while count:
+        if day == datetime.date.max:
+            return None
+        day += datetime.timedelta(days=1)
+        count -= day.weekday() < 5
+    return day
+
+
+def due_date(field, day):
+    """002 2.3.1 note 1: a date from E to E+8, eight workdays later; itself any day of the week.
+
+    Where E is no date no day is inside, as in compiled.
+    """
+    if no_date(field):
+        return no_date(field)
+    due, e = date(field), clearing_day(day)
+    if e is None or due < e:
+        return OUTSIDE_DAYS
+    last = workday(e, 8)
+    return unless(last is None or due <= last, OUTSIDE_DAYS)
+
+
 def item_number(field, k):
-    """01 "Item rules": the k-th item carries number k; 002 1.3.1 T211."""
+    """01 "Item rules": the k-th item carries number k; 002 1.3.1 and 2.3.1 T211."""
     if not all_digits(field):
         return NOT_DIGITS
     return unless(number(field) == k, OUT_OF_ORDER)
 
 
 def amount(field):
-    """01 "Item rules": ten digits, not all zero; 002 1.3.1 T213."""
+    """01 "Item rules": ten digits, not all zero; 002 1.3.1 and 2.3.1 T213."""
     if not all_digits(field):
         return NOT_DIGITS
     return unless(number(field) > 0, BLANK_OR_ZERO)
 
 
-def empty(field):
-    """002 1.3.1 note 3: not only spaces and/or zeros."""
-    return unless(not leaves.only(field, b" 0"), BLANK_OR_ZERO)
-
-
-def item_fields(record, k, banks):
-    """01 "Item rules"; 002 1.3.1, in its order. The credit date isn't examined.
-
-    Each row: the field, the kind of fault found in it or None.
-    """
-    f = partial(at, record)
+def type_and_number(f, k):
+    """The rows of item_fields that 002 1.3.1 and 2.3.1 have before 9-16; f gives a field by its positions."""
     return (
         (b"type", unless(f(1, 2) == b"02", MARK)),
         (b"item-number", item_number(f(3, 8), k)),
+    )
+
+
+def amount_to_owner(f, banks):
+    """The rows of item_fields that 002 1.3.1 and 2.3.1 have after 9-16."""
+    return (
         (b"amount", amount(f(17, 26))),
         (b"bank", bank(f(27, 34), banks)),
         (b"account", account(f(35, 50))),
         (b"customer-id", empty(f(51, 74))),
         (b"owner", empty(f(145, 179))),
     )
+
+
+def atutal_item(f, k, day, banks):
+    """01 "Item rules"; 002 1.3.1, in its order. The credit date isn't examined, so E isn't used."""
+    return (*type_and_number(f, k), *amount_to_owner(f, banks))
+
+
+def beszed_item(f, k, day, banks):
+    """002 2.3.1, in its order."""
+    return (*type_and_number(f, k), (b"due-date", due_date(f(9, 16), day)), *amount_to_owner(f, banks))
+
+
+def item_fields(record, k, day, banks, told):
+    """The rules of an item in a message of the kind that its head told.
+
+    Each row: the field, the kind of fault found in it or None.
+    """
+    table = {ATUTAL: atutal_item, BESZED: beszed_item}[told]
+    return table(partial(at, record), k, day, banks)
 
 
 # Judging one record of a message
@@ -244,7 +339,7 @@ def judge_head(record, day, banks, known):
     return int(bad_letters(record, HEAD_TEXT) != []), faults[0] if faults else 0
 
 
-def judge_item(record, k, banks):
+def judge_item(record, k, day, banks, told):
     """(bad letter 0 or 1, first Ü code, first T code, amount, zero account 0 or 1).
 
     A code is 0 where there is none. 01 "Faults of the whole message" 2 and 4,
@@ -254,7 +349,7 @@ def judge_item(record, k, banks):
     if len(record) != ITEM:
         return 0, BREAK, 0, 0, 0
     letter = int(bad_letters(record, ITEM_TEXT) != [])
-    fields = item_fields(record, k, banks)
+    fields = item_fields(record, k, day, banks, told)
     fault, code = first_code(fields, MESSAGE_CODES), first_code(fields, ITEM_CODES)
     zero = int(leaves.account_zero(at(record, 35, 50)))
     return letter, fault, code, item_amount(record), zero
@@ -263,7 +358,7 @@ def judge_item(record, k, banks):
 def judge_foot(record, count, total):
     """The foot's code or 0: count, then sum.
 
-    01 "Faults of the whole message" 5; 002 1.2.1. Its type isn't asked for: a
+    01 "Faults of the whole message" 5; 002 1.2.1 and 2.2.1. Its type isn't asked for: a
     record is the foot only if it begins 03 (01 "Records"). Another length as in
     judge_head.
     """
@@ -288,10 +383,12 @@ def refusal(day, banks, known):
     return 0 if leaves.known_list(b"", known)[0] else 3
 
 
-def single(record, k, day, banks, known):
+def single(record, k, day, banks, known, kind_number):
     """01 "Calls and their answers", a single head or item; refusals 1, 2, 3, 10.
 
     Length tells head from item. A bad letter comes first, then the fields in order.
+    A head tells its own kind; an item comes with its number: 1 BESZED, any other
+    ATUTAL (include/nshanvekh.h, nsh_single).
     """
     refused = refusal(day, banks, known)
     if not refused and len(record) not in (HEAD, ITEM):
@@ -303,7 +400,7 @@ def single(record, k, day, banks, known):
         fields = [(field, kind) for field, _, kind in head_fields(record, day, banks, known)]
     else:
         text = ITEM_TEXT
-        fields = item_fields(record, k, banks)
+        fields = item_fields(record, k, day, banks, BESZED if kind_number == 1 else ATUTAL)
     faults = [(field, LETTER) for field in bad_letters(record, text)]
     faults += [(field, kind) for field, kind in fields if kind]
     return b" ".join(faults[0]) if faults else b"accepted"

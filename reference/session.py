@@ -12,7 +12,7 @@ from message import LONGEST_TABLE
 
 SIZE = 344
 MOST_AMOUNT = 9999999999  # 01 "Records": ten digits
-MOST_TOLD = 0  # ATUTAL's head tells its items nothing
+MOST_TOLD = rules.BESZED  # what the head told: the message's kind
 CLOSED = bytes([1, 5]).ljust(SIZE, b"\0")  # phase 5; only that it is refused counts here
 
 
@@ -33,11 +33,12 @@ def phase_of(head, items, foot, begun, room):
     return phase if len(begun) < record_size(phase, begun) else 3
 
 
-def of(read, room, day, banks, known):
-    """The bytes of the session that has read these bytes, for a table of so many."""
+def of(read, room, day, banks, known, told=None):
+    """The bytes of the session that has read these bytes, for a table of so many. A kind that is told as in message.judge."""
     head, items, foot = message.cut(read)
     begun = read if head is None else read[176 + 251 * len(items) :]
-    judged = [rules.judge_item(item, k, banks) for k, item in enumerate(items[:room], 1)]
+    kind = rules.message_kind(head) if told is None else told
+    judged = [rules.judge_item(item, k, day, banks, kind) for k, item in enumerate(items[:room], 1)]
     accepted, accepted_sum, refused, refused_sum, zeros = message.numbers(judged)
     phase = phase_of(head, items, foot, begun, room)
     found = [rules.judge_head(head, day, banks, known)] if head is not None else []
@@ -49,8 +50,7 @@ def of(read, room, day, banks, known):
     held = begun if phase < 2 else b""
     numbers = (room, accepted, accepted_sum, refused, refused_sum, zeros, len(held))
     marks = bytes([1, phase, letter, next((code for code in codes if code), 0)])
-    told = 0
-    short = day.to_bytes(4, "little") + told.to_bytes(4, "little")
+    short = day.to_bytes(4, "little") + kind.to_bytes(4, "little")
     fields = b"".join(number.to_bytes(8, "little") for number in numbers)
     return marks + short + fields + message.identifier(head) + held.ljust(251, b"\0")
 

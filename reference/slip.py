@@ -1,14 +1,18 @@
 """What the slip program prints, by definition.
 
-Written from document 01 alone, not from the code that is held to it. The three
+Written from documents 01 and 02 alone, not from the code that is held to it. The three
 files and the message are bytes; a missing file is an empty one (01 "Examples").
 """
 
 import leaves
 import message
+import rules
 
 # 01 "Examples": a file over 25,000 bytes is refused.
 LONGEST_FILE = 25000
+
+# 02 #101: the words of the first line.
+KINDS = {rules.ATUTAL: b"ATUTAL", rules.BESZED: b"BESZED"}
 
 
 # The files
@@ -44,7 +48,7 @@ def refused(number):
 
 
 def slip(day_file, banks_file, known, text):
-    """01 "Examples": what the program prints. The files are judged in their order, before the message."""
+    """01 "Examples" and 02 #101: what the program prints. The files are judged in their order, before the message."""
     day, banks = day_in(day_file), banks_in(banks_file)
     if day is None:
         return refused(1)
@@ -53,7 +57,7 @@ def slip(day_file, banks_file, known, text):
     if not is_known(known):
         return refused(3)
     table = bytes(message.LONGEST_TABLE)
-    refusal, code, numbers, _, _ = message.judge(text, day, banks, known, table)
+    refusal, code, numbers, kind, _, _ = message.judge(text, day, banks, known, table)
     if refusal:
         return refused(refusal)
-    return b"MESSAGE %02d\nACCEPTED %d %d\nREFUSED %d %d\nZERO %d\n" % (code, *numbers)
+    return b"KIND %s\nMESSAGE %02d\nACCEPTED %d %d\nREFUSED %d %d\nZERO %d\n" % (KINDS[kind], code, *numbers)

@@ -57,7 +57,7 @@ def reply(text, day, banks, known, duplicate, number, time, room):
     With a code other than 00 there are no references, and the numbers are 0.
     """
     table = bytes(message.LONGEST_TABLE)
-    refused, code, numbers, _, codes = message.judge(text, day, banks, known, table)
+    refused, code, numbers, _, _, codes = message.judge(text, day, banks, known, table)
     address = at(text, 10, 34)
     if refused:
         return "refused", refused

@@ -2,7 +2,7 @@
 
     python3 reference/trial.py < crates/trial/stdin
 
-Written from document 01, docs/CODES.md, docs/SESSION.md and the header alone, not
+Written from documents 01 and 02, docs/CODES.md, docs/SESSION.md and the header alone, not
 from the code that is held to them. The lines # E B K, and those that build the base
 text, are those of script.py; like them, P, Z and X set something, and the lines with
 small letters try something:
@@ -18,7 +18,7 @@ small letters try something:
     a   five digits code table's length, at most 25: judges the text in two pieces, cut
         at each place of the text
     w   five digits code table's length: writes the reply to the text and reads it
-    s   ten digits k: judges the text as a single record
+    s   ten digits k, a space, ten digits kind: judges the text as a single record
     r   five digits code table's length: reads the text as a STATUS
     f   five digits for the length of each of the files day, banks and known, single
         spaces between them: prints the slip for them and the message, which follow
@@ -66,12 +66,12 @@ import status
 
 UNTOUCHED = 255
 SIZE = 99  # the header, NSH_SIZE
-CLOSING_NUMBERS, REPLY_NUMBERS, ID_BYTES = 6, 1, 25  # the header, sizes of buffers
+CLOSING_NUMBERS, REPLY_NUMBERS, ID_BYTES = 7, 1, 25  # the header, sizes of buffers
 
 # The header, NSH_FIELD and NSH_KIND: numbered from 1.
 FIELDS = b"""
     type message-type duplicate-code initiator identifier date number bank account debit-date purpose name remark
-    item-number amount customer-id address owner
+    item-number amount customer-id address owner due-date
 """.split()
 KINDS = b"""
     letter mark form not-digits check-digit no-date outside-days not-listed known blank-or-zero out-of-order other
@@ -125,7 +125,7 @@ def lent(refused, numbers, identifier, sizes):
 
 def judged(text, given, table, sizes, by_pieces):
     """What nsh_judge gives, or the calls by pieces: a wrong size of numbers and id is refused at once, or at closing."""
-    refused, code, numbers, identifier, after = message.judge(text, *given, table)
+    refused, code, numbers, kind, identifier, after = message.judge(text, *given, table)
     if by_pieces and sizes.session:
         refused, after = SIZE, table
     elif sizes.numbers or sizes.id:
@@ -133,7 +133,7 @@ def judged(text, given, table, sizes, by_pieces):
             refused, after = SIZE, table
         elif refused not in (1, 2, 3, 4):
             refused = SIZE
-    return b" %d" % refused + lent(refused, (code, *numbers), identifier, sizes) + sums(after)
+    return b" %d" % refused + lent(refused, (code, *numbers, kind), identifier, sizes) + sums(after)
 
 
 def replied(text, given, particulars, sizes):
@@ -159,9 +159,10 @@ def read(text, length, sizes):
     return b" %d" % refused + lent(refused, numbers, facts.identifier, sizes) + sums(table)
 
 
-def single(text, k, given):
-    """The number of nsh_single: 0, a refusal's, or 100 x the field's and the kind's."""
-    answer = rules.single(text, k, *given)
+def single(text, own, given):
+    """The number of nsh_single: 0, a refusal's, or 100 x the field's and the kind's. The line has the place and the message's kind."""
+    place, kind_number = (int(field) for field in own.split())
+    answer = rules.single(text, place, *given, kind_number)
     if answer == b"accepted":
         return 0
     field, kind = answer.split()
@@ -178,11 +179,15 @@ class Host:
         self.session = bytes(session.SIZE)
         self.read, self.room, self.given = b"", 0, (0, (), b"")
 
+    def kind(self):
+        """The message's kind as the session keeps it; X lines may have put another there."""
+        return int.from_bytes(self.session[8:12], "little")
+
     def is_open(self):
-        """Bytes that X lines put in leave a session as it was or make it none: only then its answers are known here."""
+        """Bytes that X lines put in leave a session as it was but for the kind, or make it none: only then its answers are known here."""
         if not session.is_open(self.session):
             return False
-        real = session.of(self.read, self.room, *self.given)
+        real = session.of(self.read, self.room, *self.given, self.kind())
         counts = 93 + int.from_bytes(real[60:68], "little")  # bytes held beyond the fill don't matter
         assert self.session[:counts] == real[:counts]
         return True
@@ -197,7 +202,8 @@ class Host:
         return refused
 
     def piece(self, new, given, table, sizes):
-        """nsh_piece: 99, 5, 2, 3, 4; and the table afterwards, with the codes of the items that this piece completes."""
+        """nsh_piece: 99, 5, 2, 3, 4; and the table afterwards, with the codes of the items that this piece completes. Items go by
+        the kind that the session keeps; the head, when it comes, tells it."""
         if sizes.session:
             return SIZE, table
         if not self.is_open():
@@ -206,10 +212,11 @@ class Host:
         refused = rules.refusal(*lists) or (4 if len(table) != self.room else 0)
         if refused:
             return refused, table
-        before = len(message.cut(self.read)[1])
+        head, items, _ = message.cut(self.read)
+        told, before = None if head is None else self.kind(), len(items)
         self.read, self.given = self.read + new, lists
-        self.session = session.of(self.read, self.room, *lists)
-        return 0, table[:before] + message.judge(self.read, *lists, table)[4][before:]
+        self.session = session.of(self.read, self.room, *lists, told)
+        return 0, table[:before] + message.judge(self.read, *lists, table, told)[-1][before:]
 
     def close(self, numbers, identifier, sizes):
         """nsh_close: 99, 5, 6; and the numbers and the identifier afterwards."""
@@ -217,9 +224,9 @@ class Host:
             return SIZE, numbers, identifier
         if not self.is_open():
             return 5, numbers, identifier
-        refused, code, totals, own, _ = message.judge(self.read, *self.given, untouched(self.room))
+        refused, code, totals, kind, own, _ = message.judge(self.read, *self.given, untouched(self.room), self.kind())
         self.session = session.CLOSED
-        return (refused, numbers, identifier) if refused else (0, (code, *totals), own)
+        return (refused, numbers, identifier) if refused else (0, (code, *totals, kind), own)
 
     def call(self, command, new, given, length, sizes):
         """What an o, t or c line prints, without the letter."""
@@ -251,7 +258,7 @@ def printed(own, text):
 def answer(command, own, text, given, particulars, sizes, host):
     """What a line of this command prints, without the letter."""
     if command == b"s":
-        return b" %d" % single(text, int(own), given)
+        return b" %d" % single(text, own, given)
     if command == b"f":
         return printed(own, text)
     if command in b"otc":

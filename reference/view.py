@@ -4,8 +4,9 @@
     python3 reference/view.py crates/view/data faults < reference/faulty
 
 The folder holds the files `day`, `banks` and `known`. With the word `faults` the
-records without a fault, a watch or a break are left out. Written from document 01
-and docs/CODES.md, not from the code that is held to it. The rules of the fields
+records without a fault, a watch or a break are left out. Beside crates/view/stdin two
+messages are shown: `faulty`, an ATUTAL, and `debited`, a BESZED. Written from documents 01
+and 02 and docs/CODES.md, not from the code that is held to it. The rules of the fields
 are in rules.py, the cutting and the verdict in message.py; here is what is said
 of them, in words.
 """
@@ -52,6 +53,9 @@ ITEM_FIELDS = (
 )
 FOOT_FIELDS = (("type", 1, 2), ("item count", 3, 8), ("sum", 9, 24))
 
+# 002 2.1 and 2.3: the fields of ATUTAL that have another name in a BESZED.
+BESZED_NAMES = {"debit date": "notification date", "credit date": "due date"}
+
 # 01 "Faults of the whole message" 2: the letters above 7Eh that text may hold.
 LETTERS = bytes.fromhex("81828A8B9094999AA0A1A2A3B5D6E0E9EBFB")
 
@@ -87,6 +91,7 @@ MEANINGS = {
     26: "break, the records can't be cut",
     29: "head, identifier already known",
     32: "item, number out of order",
+    33: "item, due date",
     34: "item, amount is not digits",
     36: "a letter that text may not hold",
     37: "item, bank",
@@ -157,8 +162,9 @@ def field_line(record, name, first, last):
     return '  %s (%s): "%s"%s' % (name, place, "".join(map(shown, text)), after)
 
 
-def field_lines(record, fields):
-    return [field_line(record, *field) for field in fields]
+def field_lines(record, fields, kind):
+    names = BESZED_NAMES if kind == rules.BESZED else {}
+    return [field_line(record, names.get(name, name), first, last) for name, first, last in fields]
 
 
 # Answers
@@ -192,9 +198,9 @@ def head_faults(record, day, banks, known):
     return letters(record, rules.HEAD_TEXT) + [(field, kind, code, True) for field, code, kind in rows if kind]
 
 
-def item_faults(record, k, banks):
+def item_faults(record, k, day, banks, kind):
     found = letters(record, rules.ITEM_TEXT)
-    for row in rules.item_fields(record, k, banks):
+    for row in rules.item_fields(record, k, day, banks, kind):
         if row in rules.MESSAGE_CODES:
             found.append(row + (rules.MESSAGE_CODES[row], True))
         elif row in rules.ITEM_CODES:
@@ -205,18 +211,18 @@ def item_faults(record, k, banks):
 # Records
 
 
-def head_lines(record, day, banks, known):
-    return field_lines(record, HEAD_FIELDS) + fault_lines(head_faults(record, day, banks, known))
+def head_lines(record, day, banks, known, kind):
+    return field_lines(record, HEAD_FIELDS, kind) + fault_lines(head_faults(record, day, banks, known))
 
 
-def item_lines(record, k, banks):
-    lines = field_lines(record, ITEM_FIELDS) + fault_lines(item_faults(record, k, banks))
-    _, _, code, _, zero = rules.judge_item(record, k, banks)
+def item_lines(record, k, day, banks, kind):
+    lines = field_lines(record, ITEM_FIELDS, kind) + fault_lines(item_faults(record, k, day, banks, kind))
+    _, _, code, _, zero = rules.judge_item(record, k, day, banks, kind)
     return lines + ["  WATCH account is all zeros"] * (zero == 1 and code == 0)
 
 
-def foot_lines(record, count, total):
-    lines = field_lines(record, FOOT_FIELDS) + ["  the items give count %d and sum %d" % (count, total)]
+def foot_lines(record, count, total, kind):
+    lines = field_lines(record, FOOT_FIELDS, kind) + ["  the items give count %d and sum %d" % (count, total)]
     code = rules.judge_foot(record, count, total)
     if code == 0:
         return lines + ["  no fault"]
@@ -252,25 +258,26 @@ def record_lines(data, day, banks, known, only):
     """Each record in order, with its number and place; the break, where there is one, is the last. Or only those that
     have something to tell."""
     head, items, foot = message.cut(data)
+    kind = rules.message_kind(head)
     shown_records = []
     if head is not None:
-        shown_records.append(("head", head_lines(head, day, banks, known)))
+        shown_records.append(("head", head_lines(head, day, banks, known, kind)))
     for k, item in enumerate(items, 1):
-        shown_records.append(("item %d" % k, item_lines(item, k, banks)))
+        shown_records.append(("item %d" % k, item_lines(item, k, day, banks, kind)))
     starts = [0] + [176 + 251 * k for k in range(len(items) + 1)]
     if foot is None:
         shown_records.append(("break", [break_line(data, starts[len(shown_records)], len(items))]))
     else:
-        shown_records.append(("foot", foot_lines(foot, len(items), sum(map(rules.item_amount, items)))))
+        shown_records.append(("foot", foot_lines(foot, len(items), sum(map(rules.item_amount, items)), kind)))
     lines = []
-    for n, (start, (kind, below)) in enumerate(zip(starts, shown_records), 1):
+    for n, (start, (name, below)) in enumerate(zip(starts, shown_records), 1):
         if not only or any(line.startswith(TOLD) for line in below):
-            lines += ["RECORD %d at byte %d: %s" % (n, start + 1, kind)] + below
+            lines += ["RECORD %d at byte %d: %s" % (n, start + 1, name)] + below
     return lines
 
 
 def verdict_lines(data, day, banks, known):
-    _, code, numbers, _, _ = message.judge(data, day, banks, known, bytes(message.LONGEST_TABLE))
+    _, code, numbers, _, _, _ = message.judge(data, day, banks, known, bytes(message.LONGEST_TABLE))
     answer = "refused" if code else "accepted"
     return [
         "VERDICT code %02d: %s, the message is %s" % (code, MEANINGS[code], answer),

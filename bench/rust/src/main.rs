@@ -6,7 +6,7 @@ mod plain;
 mod proved;
 
 use messages::{given, good, Given};
-use plain::{Lists, Particulars, Session};
+use plain::{Kind, Lists, Particulars, Session};
 use std::hint::black_box;
 use std::time::{Duration, Instant};
 
@@ -105,6 +105,12 @@ fn of(a: Duration, b: Duration) -> f64 {
 }
 
 fn print(rows: &[Row]) {
+    let load = std::fs::read_to_string("/proc/loadavg").unwrap_or_default();
+    println!(
+        "10,000 items, {} bytes; the best of {ROUNDS} rounds",
+        rows[0].message.len()
+    );
+    println!("load: {}", load.trim());
     println!(
         "{:38} {:>10} {:>10} {:>13} {:>16} {:>15}",
         "", "proved", "plain", "proved/plain", "proved, of whole", "plain, of whole"
@@ -155,11 +161,18 @@ fn print_wanted(whole: &Row, pieces: &[Row], thousand: &Row) {
 
 fn main() {
     let (few, many) = (given(10), given(2700));
-    let plain = good(&few, 10_000, 0);
-    let accented = good(&few, 10_000, 5);
-    let listed = good(&many, 10_000, 0);
-    let thousand = good(&few, 1_000, 0);
-    agreement::check(&[(&few, &plain), (&few, &accented), (&many, &listed), (&few, &thousand)]);
+    let plain = good(&few, Kind::Atutal, 10_000, 0);
+    let accented = good(&few, Kind::Atutal, 10_000, 5);
+    let listed = good(&many, Kind::Atutal, 10_000, 0);
+    let thousand = good(&few, Kind::Atutal, 1_000, 0);
+    let debits = good(&few, Kind::Beszed, 10_000, 0);
+    agreement::check(&[
+        (&few, Kind::Atutal, &plain),
+        (&few, Kind::Atutal, &accented),
+        (&many, Kind::Atutal, &listed),
+        (&few, Kind::Atutal, &thousand),
+        (&few, Kind::Beszed, &debits),
+    ]);
 
     let mut rows = vec![
         row("whole, 10 banks", &few, &plain, Task::Whole),
@@ -174,6 +187,11 @@ fn main() {
         row("  pieces of 1,000 bytes", &many, &listed, Task::Pieces(1_000)),
         row("  pieces of 100 bytes", &many, &listed, Task::Pieces(100)),
         row("whole, 1,000 items", &few, &thousand, Task::Whole),
+        row("BESZED, whole, 10 banks", &few, &debits, Task::Whole),
+        row("  pieces of 64 KiB", &few, &debits, Task::Pieces(65_536)),
+        row("  pieces of 1,000 bytes", &few, &debits, Task::Pieces(1_000)),
+        row("  pieces of 100 bytes", &few, &debits, Task::Pieces(100)),
+        row("  reply of 10,000 references", &few, &debits, Task::Reply),
     ];
     let (mut table, mut out) = (vec![0; 10_000], vec![0; 104 + 65 * 10_000]);
     for _ in 0..ROUNDS {
@@ -181,11 +199,6 @@ fn main() {
             row.measure(&mut table, &mut out);
         }
     }
-    println!("10,000 items, {} bytes; the best of {ROUNDS} rounds", plain.len());
-    println!(
-        "load: {}",
-        std::fs::read_to_string("/proc/loadavg").unwrap_or_default().trim()
-    );
     print(&rows);
     print_wanted(&rows[0], &rows[1..4], &rows[11]);
 }

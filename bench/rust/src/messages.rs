@@ -1,8 +1,15 @@
 //! Good messages of any number of items, with the lists that they are judged by; and messages with bytes changed.
 
+use crate::plain::Kind;
 use std::collections::BTreeSet;
 
+/// A Tuesday.
 pub const DAY: u32 = 20200310;
+
+/// The bytes of the records with their endings.
+const HEAD: usize = 176;
+const ITEM: usize = 251;
+const FOOT: usize = 26;
 
 /// The clearing day and the lists.
 pub struct Given {
@@ -94,16 +101,61 @@ fn account(dice: &mut Dice) -> String {
     checked(dice, digits)
 }
 
+/// What differs between the kinds in a good message.
+struct Wording {
+    /// Positions 3-22 of the head.
+    start: &'static str,
+    /// Positions 59-66 of the head: a debit date, or no notification date.
+    day: String,
+    purpose: &'static str,
+    name: &'static [u8],
+    remark: &'static [u8],
+    customer: &'static str,
+    item_remark: &'static [u8],
+}
+
+fn wording(kind: Kind, day: u32) -> Wording {
+    match kind {
+        Kind::Atutal => Wording {
+            start: "ATUTAL0A12345676T001",
+            day: day.to_string(),
+            purpose: "MUN",
+            name: b"Minta Gepgyar Kft.",
+            remark: b"marciusi munkaber",
+            customer: "DOLGOZO",
+            item_remark: b"munkaber 2020. februar",
+        },
+        Kind::Beszed => Wording {
+            start: "BESZED0E12345676    ",
+            day: " ".repeat(8),
+            purpose: "VIL",
+            name: b"Minta Aramszolgaltato Zrt.",
+            remark: b"marciusi aramdij",
+            customer: "FOGYASZTO",
+            item_remark: b"aramdij 2020. februar",
+        },
+    }
+}
+
+/// Positions 9-16 of an item: the day after, or a due date from the day to ten days later, weekends too.
+fn item_date(kind: Kind, day: u32, dice: &mut Dice) -> u32 {
+    match kind {
+        Kind::Atutal => day + 1,
+        Kind::Beszed => day + dice.below(11) as u32,
+    }
+}
+
 /// A good message: code 00, every item accepted. Of a hundred items so many have accented letters in their names.
-pub fn good(given: &Given, items: usize, accented: u64) -> Vec<u8> {
+pub fn good(given: &Given, kind: Kind, items: usize, accented: u64) -> Vec<u8> {
+    let (day, words) = (given.day, wording(kind, given.day));
     let mut dice = Dice::new(items as u64);
     let mut out = Vec::with_capacity(204 + 251 * items);
     let mut sum = 0;
-    out.extend_from_slice(format!("01ATUTAL0A12345676T001{DAY}0001{:08}", given.banks[0]).as_bytes());
+    out.extend_from_slice(format!("01{}{day}0001{:08}", words.start, given.banks[0]).as_bytes());
     put(&mut out, account(&mut dice).as_bytes(), 16);
-    out.extend_from_slice(format!("{DAY}MUN").as_bytes());
-    put(&mut out, b"Minta Gepgyar Kft.", 35);
-    put(&mut out, b"marciusi munkaber", 70);
+    out.extend_from_slice(format!("{}{}", words.day, words.purpose).as_bytes());
+    put(&mut out, words.name, 35);
+    put(&mut out, words.remark, 70);
     out.extend_from_slice(b"\r\n");
     for place in 1..=items {
         let amount = 1 + dice.below(900_000);
@@ -113,21 +165,40 @@ pub fn good(given: &Given, items: usize, accented: u64) -> Vec<u8> {
         } else {
             dice.pick(&NAMES)
         };
+        let date = item_date(kind, day, &mut dice);
         sum += amount;
-        out.extend_from_slice(format!("02{place:06}20200311{amount:010}{bank:08}").as_bytes());
+        out.extend_from_slice(format!("02{place:06}{date}{amount:010}{bank:08}").as_bytes());
         put(&mut out, account(&mut dice).as_bytes(), 16);
-        put(&mut out, format!("DOLGOZO-{place:05}").as_bytes(), 24);
+        put(&mut out, format!("{}-{place:05}", words.customer).as_bytes(), 24);
         put(&mut out, name, 35);
         put(&mut out, dice.pick(&STREETS), 35);
         put(&mut out, name, 35);
-        put(&mut out, b"munkaber 2020. februar", 70);
+        put(&mut out, words.item_remark, 70);
         out.extend_from_slice(b"\r\n");
     }
     out.extend_from_slice(format!("03{items:06}{sum:016}\r\n").as_bytes());
     out
 }
 
-/// The message with a few bytes changed, or with bytes lost or added at its end.
+/// Bytes 3-8 of the head are those of a kind or nearly so, or one of them is changed.
+fn damage_kind(out: &mut [u8], dice: &mut Dice) {
+    match dice.below(5) {
+        0 => out[2..8].copy_from_slice(b"ATUTAL"),
+        1 => out[2..8].copy_from_slice(b"BESZED"),
+        2 => out[2..8].copy_from_slice(b"BESZEd"),
+        _ => out[2 + dice.below(6) as usize] = b' ' + dice.below(95) as u8,
+    }
+}
+
+/// Positions 9-16 of an item are a day of the month or none, near the clearing days and the eighth workday after them.
+fn damage_date(out: &mut [u8], dice: &mut Dice) {
+    let items = (out.len() - HEAD - FOOT) / ITEM;
+    let at = HEAD + ITEM * dice.below(items as u64) as usize + 8;
+    let date = DAY - 10 + dice.below(34) as u32;
+    out[at..at + 8].copy_from_slice(date.to_string().as_bytes());
+}
+
+/// The good message with a few bytes changed, its kind or due dates among them, or with bytes lost or added at its end.
 pub fn damaged(message: &[u8], dice: &mut Dice) -> Vec<u8> {
     let mut out = message.to_vec();
     for _ in 0..dice.below(3) {
@@ -139,7 +210,7 @@ pub fn damaged(message: &[u8], dice: &mut Dice) -> Vec<u8> {
             _ => *dice.pick(&[&0x81, &0xa0, &0x7f, &b'@', &b'3', &b'A', &b'\r']),
         };
     }
-    match dice.below(12) {
+    match dice.below(14) {
         0 => out.truncate(dice.below(out.len() as u64) as usize),
         1 => out.push(b' '),
         2 => {
@@ -147,6 +218,8 @@ pub fn damaged(message: &[u8], dice: &mut Dice) -> Vec<u8> {
             let at = dice.below(out.len() as u64 - 35) as usize;
             out[at..at + 35].fill(*dice.pick(&[&b' ', &b'0']));
         }
+        3 => damage_kind(&mut out, dice),
+        4..=5 => damage_date(&mut out, dice),
         _ => {}
     }
     out

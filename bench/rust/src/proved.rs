@@ -4,6 +4,9 @@ use crate::messages::Given;
 
 const SESSION_BYTES: usize = 344;
 
+/// The numbers of closing: message code, accepted count and sum, refused count and sum, zero watch, kind.
+pub type Numbers = [u64; 7];
+
 extern "C" {
     fn nsh_open(day: u32, table: *const u8, table_len: usize, session: *mut u8, session_len: usize) -> u32;
 
@@ -63,9 +66,9 @@ extern "C" {
     ) -> u32;
 }
 
-/// The refusal's number or 0, then the code and the five numbers.
-pub fn judge(given: &Given, table: &mut [u8], message: &[u8]) -> (u32, [u64; 6]) {
-    let (mut numbers, mut id) = ([0; 6], [0; 25]);
+/// The refusal's number or 0, then the numbers of closing.
+pub fn judge(given: &Given, table: &mut [u8], message: &[u8]) -> (u32, Numbers) {
+    let (mut numbers, mut id) = (Numbers::default(), [0; 25]);
     // SAFETY: each pointer and length is of a slice that lives through the call, and the lent ones are apart.
     let refusal = unsafe {
         nsh_judge(
@@ -118,7 +121,7 @@ impl Session {
         }
     }
 
-    fn close(&mut self, numbers: &mut [u64; 6]) -> u32 {
+    fn close(&mut self, numbers: &mut Numbers) -> u32 {
         let mut id = [0; 25];
         // SAFETY: as in `judge`.
         unsafe {
@@ -135,8 +138,8 @@ impl Session {
 }
 
 /// The same, by pieces of so many bytes, a call for each.
-pub fn judge_by(size: usize, given: &Given, table: &mut [u8], message: &[u8]) -> (u32, [u64; 6]) {
-    let mut numbers = [0; 6];
+pub fn judge_by(size: usize, given: &Given, table: &mut [u8], message: &[u8]) -> (u32, Numbers) {
+    let mut numbers = Numbers::default();
     let mut session = match Session::open(given.day, table) {
         Ok(session) => session,
         Err(refusal) => return (refusal, numbers),

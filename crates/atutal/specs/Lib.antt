@@ -1,3 +1,1 @@
-pub mod Codes
-pub mod Faultless
-pub mod Examples
+pub mod Tables

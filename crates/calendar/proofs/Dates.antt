@@ -101,10 +101,18 @@ unfolding daysOfMonths
 whole-year true = refl
 whole-year false = refl
 
--- the day number of a date
+-- the day number of a date, which is 1 or more, and of what is none
 pub is-number : (n : ℕ) → isDate n ≡ true → dayNumber n ≡ daysTo n
 unfolding dayNumber
 is-number n e = simp e
+
+pub no-number : (n : ℕ) → isDate n ≡ false → dayNumber n ≡ 0
+unfolding dayNumber
+no-number n e = simp e
+
+pub from-one : (n : ℕ) → isDate n ≡ true → 1 ≤ dayNumber n
+unfolding daysTo
+from-one n e = rw (is-number n e) (omega (arith, parts n e .first-day))
 
 -- what a test of a negated answer says of what was asked
 pub no : {r v : Bool} → r ≡ v → not r ≡ true → v ≡ false

@@ -4,3 +4,4 @@ pub mod Dates
 pub mod Next
 pub mod Order
 pub mod Reached
+pub mod Workdays

@@ -1,3 +1,4 @@
 pub mod Calendar
+pub mod Workdays
 pub mod DateField
 pub mod Examples

@@ -13,6 +13,7 @@ ghost use Rattle.calendar.specs.Calendar.{
   isWithin,
   isBefore,
 };
+ghost use Rattle.calendar.specs.Workdays.{daysToEighth, isDue};
 
 // Every fourth year is a leap year, but of the hundreds only every fourth (01, Digits and dates: Gregorian).
 fn is_leap(y: u32) -> bool
@@ -123,6 +124,32 @@ pub fn is_before(a: u32, b: u32) -> bool
         return false;
     }
     a < b
+}
+
+// The days from a day to the eighth workday after it: by what is left of the day number by seven, 0 Sunday to 6 Saturday (02 #101).
+fn days_to_eighth(n: u32) -> u32
+    ensures { λ r. ⌜ r ≡ daysToEighth n ⌝ }
+{
+    let w = n % 7;
+    if w < 3 {
+        return 10;
+    }
+    if w < 6 {
+        return 12;
+    }
+    11
+}
+
+// Whether both are dates and d lies from e to the eighth workday after it, both ends in (002 2.3.1 note 1). What is no date has day number 0.
+pub fn is_due(e: u32, d: u32) -> bool
+    ensures { λ r. ⌜ r ≡ isDue e d ⌝ }
+{
+    let a = day_number(e);
+    let b = day_number(d);
+    if b < a {
+        return false;
+    }
+    (a >= 1) & (b - a <= days_to_eighth(a))
 }
 
 // What a field that should hold a date holds (01, Digits and dates).

@@ -14,6 +14,7 @@ use Rattle.cdv.specs.Check.{satisfies, isEan13}
 use Rattle.account.specs.declared.Account.the-variants.{Good, Form, CheckDigit}
 use Rattle.account.specs.Account.{own, accountOf}
 use Rattle.calendar.specs.Calendar.{isDate, isWithin, isBefore}
+use Rattle.calendar.specs.Workdays.{isDue}
 use Rattle.calendar.specs.DateField.{dateField}
 use Rattle.calendar.specs.declared.DateField.the-variants.{Date, NotDigits, NoDate}
 use Rattle.findings.specs.declared.Kind.the-variants as kind
@@ -22,7 +23,8 @@ use Rattle.findings.specs.declared.Finding.the-variants.{Right}
 use Rattle.findings.specs.Findings.{unless, findingNumber}
 use Rattle.fields.specs.Fields.{digitsOf}
 use Rattle.fields.proofs.FirstKind.{right, must, must-not}
-use Rattle.checked.specs.Checked.{isTaxForm, initiatorFound, dateFound, compiledFound, debitFound, bankFound, accountFound}
+use Rattle.checked.specs.Checked.{isTaxForm, initiatorFound, isProviderForm, providerFound}
+use Rattle.checked.specs.Checked.{dateFound, oneOfDays, compiledFound, dueFound, debitFound, bankFound, accountFound}
 
 -- initiator: form (3), check digit (5)
 pub initiator : (s : List ℕ)
@@ -40,6 +42,25 @@ initiator s = go (isTaxForm s) (satisfies (field 2 9 s)) (digitsOf 13 s) (isEan1
     go true c d n = must c kind.CheckDigit right .is
     go false c d n = must d kind.Form (must n kind.CheckDigit right) .is
 
+-- initiator of a BESZED: form (3), check digit (5)
+pub provider : (s : List ℕ)
+    → findingNumber (providerFound s)
+    ≡ firstGiven
+    ((3, not (isProviderForm s || (isTaxForm s || digitsOf 13 s)))
+    ∷ (5, not (cond (isProviderForm s || isTaxForm s) (satisfies (field 2 9 s)) (isEan13 s)))
+    ∷ [])
+unfolding providerFound
+provider s = go (isProviderForm s)
+  where
+    go : (p : Bool)
+        → findingNumber (cond p (unless (satisfies (field 2 9 s)) kind.CheckDigit Right) (initiatorFound s))
+        ≡ firstGiven
+        ((3, not (p || (isTaxForm s || digitsOf 13 s)))
+        ∷ (5, not (cond (p || isTaxForm s) (satisfies (field 2 9 s)) (isEan13 s)))
+        ∷ [])
+    go true = must (satisfies (field 2 9 s)) kind.CheckDigit right .is
+    go false = initiator s
+
 -- a date field: not digits (4), no date (6), and then what is asked of the date
 date : (asks : ℕ → Finding) (s : List ℕ) {rs : List Row} → ByRows findingNumber (asks (numberOf s)) rs
     → ByRows findingNumber (dateFound asks (dateField s)) ((4, not (digitsOf 8 s)) ∷ (6, not (isDate (numberOf s))) ∷ rs)
@@ -56,12 +77,23 @@ pub date-field : (s : List ℕ)
     → findingNumber (dateFound (λ d. Right) (dateField s)) ≡ firstGiven ((4, not (digitsOf 8 s)) ∷ (6, not (isDate (numberOf s))) ∷ [])
 date-field s = date (λ d. Right) s right .is
 
--- date: then outside the days (7)
+-- date and due date: then outside the days (7)
+on-days : (days : ℕ → Bool) (s : List ℕ)
+    → findingNumber (dateFound (oneOfDays days) (dateField s))
+    ≡ firstGiven ((4, not (digitsOf 8 s)) ∷ (6, not (isDate (numberOf s))) ∷ (7, not (days (numberOf s))) ∷ [])
+on-days days s = date (oneOfDays days) s (must (days (numberOf s)) kind.OutsideDays right) .is
+
 pub compiled : (e : ℕ) (s : List ℕ)
     → findingNumber (compiledFound e s)
     ≡ firstGiven ((4, not (digitsOf 8 s)) ∷ (6, not (isDate (numberOf s))) ∷ (7, not (isWithin (numberOf s) e 15)) ∷ [])
 unfolding compiledFound
-compiled e s = date (λ d. unless (isWithin d e 15) kind.OutsideDays Right) s (must (isWithin (numberOf s) e 15) kind.OutsideDays right) .is
+compiled e = on-days (λ d. isWithin d e 15)
+
+pub due : (e : ℕ) (s : List ℕ)
+    → findingNumber (dueFound e s)
+    ≡ firstGiven ((4, not (digitsOf 8 s)) ∷ (6, not (isDate (numberOf s))) ∷ (7, not (isDue e (numberOf s))) ∷ [])
+unfolding dueFound
+due e = on-days (isDue e)
 
 -- debit date: then before E (7), refused by note 4 (12)
 pub debit : (e c : ℕ) (s : List ℕ)

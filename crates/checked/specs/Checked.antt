@@ -1,5 +1,5 @@
 -- What is found in fields with a check digit, a date or a list: nothing wrong, or the kind of its first fault, in 01's order of kinds
--- (01, Faults of the whole message; Item rules; Digits and dates; 002 sections 1.1.1 and 1.3.1).
+-- (01, Faults of the whole message; Item rules; Digits and dates; 002 sections 1.1.1, 1.3.1, 2.1.1 and 2.3.1).
 -- Assumes nothing.
 use Prim.Native.Nat.{ℕ}
 use mathlib.Core.Bool.{Bool, cond, not, _&&_}
@@ -7,11 +7,13 @@ use mathlib.Core.List.{List}
 use lib.ListN.{length}
 use lib.Dec.{eqb}
 use Rattle.base.specs.Bytes.{ascii, field, same}
+use Rattle.text.specs.Text.{isBlank}
 use Rattle.digits.specs.Digits.{isDigits, numberOf}
 use Rattle.cdv.specs.Check.{satisfies, isEan13}
 use Rattle.account.specs.declared.Account.{Account}
 use Rattle.account.specs.declared.Account.the-variants as account
 use Rattle.calendar.specs.Calendar.{isWithin, isBefore}
+use Rattle.calendar.specs.Workdays.{isDue}
 use Rattle.calendar.specs.DateField.{dateField}
 use Rattle.calendar.specs.declared.DateField.{DateField}
 use Rattle.calendar.specs.declared.DateField.the-variants as inField
@@ -34,15 +36,31 @@ initiatorFound s =
     (unless (satisfies (field 2 9 s)) CheckDigit Right)
     (unless (digitsOf 13 s) Form (unless (isEan13 s) CheckDigit Right))
 
+-- a service provider's number: E, eight digits, four spaces (002 2.1, Ebbbsssss)
+unfoldable pub isProviderForm : List ℕ → Bool
+isProviderForm s = eqb (length s) 13 && (same (field 1 1 s) (ascii "E") && (isDigits (field 2 9 s) && isBlank (field 10 13 s)))
+
+-- initiator of a BESZED: a service provider's number that satisfies the check digit, or an initiator as above (02 #101)
+unfoldable pub providerFound : List ℕ → Finding
+providerFound s = cond (isProviderForm s) (unless (satisfies (field 2 9 s)) CheckDigit Right) (initiatorFound s)
+
 -- what is found in a date field, and what is asked of a date
 abbrev pub dateFound : (ℕ → Finding) → DateField → Finding
 dateFound asks (inField.Date d) = asks d
 dateFound asks inField.NotDigits = Fault NotDigits
 dateFound asks inField.NoDate = Fault NoDate
 
+-- of a date is asked that it is one of certain days
+abbrev pub oneOfDays : (ℕ → Bool) → ℕ → Finding
+oneOfDays days d = unless (days d) OutsideDays Right
+
 -- date: from E-15 to E
 unfoldable pub compiledFound : ℕ → List ℕ → Finding
-compiledFound e s = dateFound (λ d. unless (isWithin d e 15) OutsideDays Right) (dateField s)
+compiledFound e s = dateFound (oneOfDays (λ d. isWithin d e 15)) (dateField s)
+
+-- due date: from E to the eighth workday after E (002 2.3.1 note 1)
+unfoldable pub dueFound : ℕ → List ℕ → Finding
+dueFound e s = dateFound (oneOfDays (isDue e)) (dateField s)
 
 -- debit date: not before E; by note 4 of 1.1.1 from the date c to ten days after it
 abbrev pub debitDay : ℕ → ℕ → ℕ → Finding

@@ -1,11 +1,14 @@
-// Fields with a check digit, a date or a list: what is found in an initiator, a date, a debit date, a bank, an account.
+// Fields with a check digit, a date or a list: what is found in an initiator, a date, a due date, a debit date, a bank, an account.
 ghost use mathlib.Core.Path.{_≡_};
 ghost use Rattle.account.specs.Account.{accountOf};
 ghost use Rattle.lists.specs.Banks.{foundIn};
 ghost use Rattle.checked.specs.Checked.{
   isTaxForm,
   initiatorFound,
+  isProviderForm,
+  providerFound,
   compiledFound,
+  dueFound,
   debitDay,
   debitFound,
   bankFound,
@@ -48,6 +51,29 @@ pub fn initiator_found(s: &[u8]) -> Finding
     found(cdv::is_ean13(s), Kind::CheckDigit)
 }
 
+// The shape of a service provider's number: E, eight digits, four spaces (002 2.1).
+fn is_provider_form(s: &[u8]) -> bool
+    ensures { λ r. ⌜ r ≡ isProviderForm (now (s .entry)) ⌝ }
+{
+    if s.len() != 13 {
+        return false;
+    }
+    if s[0] != b'E' {
+        return false;
+    }
+    digits::is_digits(&s[1..9]) & text::is_blank(&s[9..13])
+}
+
+// The initiator of a BESZED: a service provider's number, or an initiator of an ATUTAL (02 #101; 002 2.1).
+pub fn provider_found(s: &[u8]) -> Finding
+    ensures { λ r. ⌜ r ≡ providerFound (now (s .entry)) ⌝ }
+{
+    if is_provider_form(s) {
+        return found(cdv::satisfies(&s[1..9]), Kind::CheckDigit);
+    }
+    initiator_found(s)
+}
+
 // The date of a head: from E-15 to E (01, Faults of the whole message, 3).
 pub fn compiled_found(s: &[u8], e: u32) -> Finding
     ensures { λ r. ⌜ r ≡ compiledFound e (now (s .entry)) ⌝ }
@@ -55,6 +81,18 @@ pub fn compiled_found(s: &[u8], e: u32) -> Finding
     let d = calendar::read_date(s);
     match d {
         calendar::DateField::Date(n) => found(calendar::is_within(n, e, 15), Kind::OutsideDays),
+        calendar::DateField::NotDigits => Finding::Fault(Kind::NotDigits),
+        calendar::DateField::NoDate => Finding::Fault(Kind::NoDate),
+    }
+}
+
+// The due date of an item: from E to the eighth workday after E (002 2.3.1 note 1).
+pub fn due_found(s: &[u8], e: u32) -> Finding
+    ensures { λ r. ⌜ r ≡ dueFound e (now (s .entry)) ⌝ }
+{
+    let d = calendar::read_date(s);
+    match d {
+        calendar::DateField::Date(n) => found(calendar::is_due(e, n), Kind::OutsideDays),
         calendar::DateField::NotDigits => Finding::Fault(Kind::NotDigits),
         calendar::DateField::NoDate => Finding::Fault(Kind::NoDate),
     }

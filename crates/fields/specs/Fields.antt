@@ -1,5 +1,5 @@
 -- What is found in marks, numbers and texts: nothing wrong, or the kind of its first fault, in 01's order of kinds
--- (01, Faults of the whole message; Item rules; 002 sections 1.1.1, 1.2.1 and 1.3.1).
+-- (01, Faults of the whole message; Item rules; 002 sections 1.1.1 to 1.3.1 and 2.1.1 to 2.3.1).
 -- Assumes nothing.
 use Prim.Native.Nat.{ℕ}
 use mathlib.Core.Bool.{Bool, cond, not, _&&_, _||_}
@@ -29,6 +29,10 @@ markFound mark s = unless (same s mark) Mark Right
 abbrev pub duplicateFound : List ℕ → Finding
 duplicateFound s = unless (every (λ b. digit b || eqb b 0x40) s) Mark Right
 
+-- the duplicate code of a BESZED: 0-9 (002, 2.1)
+abbrev pub digitFound : List ℕ → Finding
+digitFound s = unless (every digit s) Mark Right
+
 -- the duplicate code of a STATUS is 0 or @ (01, refusal 8)
 unfoldable pub isDuplicate : ℕ → Bool
 isDuplicate b = eqb b 0x30 || eqb b 0x40
@@ -45,7 +49,7 @@ numberFound n s = unless (digitsOf n s) NotDigits Right
 abbrev pub purposeFound : List ℕ → Finding
 purposeFound s = unless (isPurpose s) NotListed Right
 
--- the head's name: not all spaces
+-- the name of an ATUTAL's head: not all spaces
 abbrev pub nameFound : List ℕ → Finding
 nameFound s = unless (not (isBlank s)) BlankOrZero Right
 
@@ -61,7 +65,7 @@ amountFound s = unless (digitsOf 10 s) NotDigits (unless (not (eqb (numberOf s) 
 abbrev pub amountOf : List ℕ → Amount
 amountOf s = record { value = numberOf s; found = amountFound s }
 
--- customer id and owner: not only spaces and zeros
+-- customer id and owner, and the name of a BESZED's head: not only spaces and zeros
 abbrev pub filledFound : List ℕ → Finding
 filledFound s = unless (not (isBlankOrZero s)) BlankOrZero Right
 

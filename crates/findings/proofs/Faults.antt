@@ -31,7 +31,7 @@ NoneSpoils = Each (λ r. spoils (r .code) (r .found) ≡ false)
 
 -- a test that is passed for each of the kinds is passed for any
 module _ (p : Code → Bool) (c : Kind → Code) where
-  for-each : passesEach p c kinds ≡ true → (k : Kind) → p (c k) ≡ true
+  pub for-each : passesEach p c kinds ≡ true → (k : Kind) → p (c k) ≡ true
   for-each e k =
       let l = both (p (c Letter)) _ e in
       let m = both (p (c Mark)) _ (l .1) in

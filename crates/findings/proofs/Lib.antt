@@ -1,5 +1,5 @@
 pub mod Row
 pub mod ByKind
 pub mod Naming
-pub mod Small
 pub mod Faults
+pub mod Small

@@ -25,10 +25,10 @@ pub neither : (c d : ℕ) → earlier c d ≡ 0 → (c ≡ 0) × (d ≡ 0)
 neither zero d e = (refl, e)
 neither (suc c) d e = let z : suc c ≡ 0 = sym (is-first c d) ∙ e in absurd (omega arith)
 
--- of seven codes of which two may not be 0, and of which all but the first may not
-module _ (a b c d e f g : ℕ) where
-  pub two-of : b ≡ 0 → d ≡ 0 → e ≡ 0 → f ≡ 0 → g ≡ 0 → first (a ∷ b ∷ c ∷ d ∷ e ∷ f ∷ g ∷ []) ≡ earlier a c
-  two-of hb hd he hf hg = simp (hb, hd, he, hf, hg, or-none c)
+-- of eight codes of which two may not be 0, and of which all but the first may not
+module _ (a b c d e f g h : ℕ) where
+  pub two-of : b ≡ 0 → c ≡ 0 → e ≡ 0 → f ≡ 0 → g ≡ 0 → h ≡ 0 → first (a ∷ b ∷ c ∷ d ∷ e ∷ f ∷ g ∷ h ∷ []) ≡ earlier a d
+  two-of hb hc he hf hg hh = simp (hb, hc, he, hf, hg, hh, or-none d)
 
-  pub six-of : a ≡ 0 → first (a ∷ b ∷ c ∷ d ∷ e ∷ f ∷ g ∷ []) ≡ earlier b (earlier c (earlier d (earlier e (earlier f g))))
-  six-of ha = simp (ha, or-none g)
+  pub seven-of : a ≡ 0 → first (a ∷ b ∷ c ∷ d ∷ e ∷ f ∷ g ∷ h ∷ []) ≡ earlier b (earlier c (earlier d (earlier e (earlier f (earlier g h)))))
+  seven-of ha = simp (ha, or-none h)

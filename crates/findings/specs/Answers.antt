@@ -32,8 +32,10 @@ answerNumber (answer.Amount k) = kindNumber k
 answerNumber (answer.CustomerId k) = kindNumber k
 answerNumber (answer.Address k) = kindNumber k
 answerNumber (answer.Owner k) = kindNumber k
+answerNumber (answer.DueDate k) = kindNumber k
 
--- the number of the field that an answer names: those of a head in their order, then those that only an item has; 0 where none is named
+-- the number of the field that an answer names: those of a head in their order, those that only an item has, and the one that only an item
+-- of BESZED has; 0 where none is named
 abbrev pub fieldNumber : Answer → ℕ
 fieldNumber answer.Accepted = 0
 fieldNumber (answer.Refused r) = 0
@@ -55,15 +57,16 @@ fieldNumber (answer.Amount k) = 15
 fieldNumber (answer.CustomerId k) = 16
 fieldNumber (answer.Address k) = 17
 fieldNumber (answer.Owner k) = 18
+fieldNumber (answer.DueDate k) = 19
 
--- the words for fields by their numbers, none for 0; after those that an answer names, three that none does (01, Records)
+-- the words for fields by their numbers, none for 0; after those that an answer names, four that none does (01, Records; 002, 2.1)
 unfoldable pub fieldWords : List (List ℕ)
 fieldWords =
     []
     ∷ ascii "type" ∷ ascii "message type" ∷ ascii "duplicate code" ∷ ascii "initiator" ∷ ascii "identifier" ∷ ascii "date"
     ∷ ascii "number" ∷ ascii "bank" ∷ ascii "account" ∷ ascii "debit date" ∷ ascii "purpose" ∷ ascii "name" ∷ ascii "remark"
     ∷ ascii "item number" ∷ ascii "amount" ∷ ascii "customer id" ∷ ascii "address" ∷ ascii "account owner"
-    ∷ ascii "credit date" ∷ ascii "item count" ∷ ascii "sum"
+    ∷ ascii "due date" ∷ ascii "credit date" ∷ ascii "item count" ∷ ascii "sum" ∷ ascii "notification date"
     ∷ []
 
 -- the field that an answer names, in words

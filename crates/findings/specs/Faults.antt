@@ -18,6 +18,11 @@ abbrev pub isCode : Code → Bool
 isCode (Ü n) = ltb 0 n
 isCode (T n) = ltb 0 n
 
+-- a code has at most two digits
+abbrev pub isShort : Code → Bool
+isShort (Ü n) = ltb n 100
+isShort (T n) = ltb n 100
+
 -- the kinds of fault, in 01's order
 abbrev pub kinds : List Kind
 kinds =

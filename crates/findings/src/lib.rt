@@ -48,6 +48,7 @@ pub enum Answer {
     CustomerId(Kind),
     Address(Kind),
     Owner(Kind),
+    DueDate(Kind),
 }
 
 // Nothing wrong, or the kind of fault.

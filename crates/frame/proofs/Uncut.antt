@@ -46,6 +46,7 @@ use Rattle.frame.specs.Verdict.{
   foundIn,
   messageCode,
   identifier,
+  toldBy,
   overflows,
   verdict,
   tableAfter,
@@ -141,19 +142,19 @@ shorter n x l g = omega (arith, length-drop (Z .item + 2) x, ended-long (Z .item
 
 module _ (R : Rules) where
   -- a state that is neither at the foot nor overflown says 26
-  open-says : (s : State) → s .tally .phase ≤ 1 → (h : List ℕ) → closing (at (s .tally .phase) h s .tally) ≡ given (blank 26 (s .tally .id))
+  open-says : (s : State) → s .tally .phase ≤ 1 → (h : List ℕ) → closing (at (s .tally .phase) h s .tally) ≡ given (blank (s .tally .told) 26 (s .tally .id))
   unfolding closing
   open-says s p h = rw (ne-eqb (s .tally .phase) 4 (λ e. omega arith), ne-eqb (s .tally .phase) 2 (λ e. omega arith))
 
-  broken-says : (s : State) → closing (at 3 [] s .tally) ≡ given (blank 26 (s .tally .id))
+  broken-says : (s : State) → closing (at 3 [] s .tally) ≡ given (blank (s .tally .told) 26 (s .tally .id))
   unfolding closing
   broken-says s = refl
 
   ends-kept : (s : State) (x : List ℕ) → s .tally .phase ≤ 1 → s .held ≡ [] → length x < size (s .tally .phase) x
-      → Ends (run R s x) (given (blank 26 (s .tally .id))) (s .table)
+      → Ends (run R s x) (given (blank (s .tally .told) 26 (s .tally .id))) (s .table)
   ends-kept s x p e l = rw (run-kept R s [] x p e l) (record { says = open-says s p x; bytes = refl })
 
-  ends-broken : (s : State) (x : List ℕ) → Ends (run R (at 3 [] s) x) (given (blank 26 (s .tally .id))) (s .table)
+  ends-broken : (s : State) (x : List ℕ) → Ends (run R (at 3 [] s) x) (given (blank (s .tally .told) 26 (s .tally .id))) (s .table)
   ends-broken s x = rw (run-broken R s x) (record { says = broken-says s; bytes = refl })
 
   -- after the head
@@ -200,13 +201,14 @@ module _ (R : Rules) where
 
     foot-some : (r : List ℕ) → (items (s .tally) ≡ 0 → ⊥)
         → (footRead R s r .tally .phase ≡ 2) × (footRead R s r .tally .id ≡ s .tally .id) × (footRead R s r .table ≡ s .table)
+        × (footRead R s r .tally .told ≡ s .tally .told)
     unfolding footRead footTally
-    foot-some r q = rw (ne-eqb (items (s .tally)) 0 q) (refl, refl, refl)
+    foot-some r q = rw (ne-eqb (items (s .tally)) 0 q) (refl, refl, refl, refl)
 
     abbrev FootEnds : List ℕ → List ℕ → Type 0
     FootEnds r y =
         Ends (run R (footRead R s r) y)
-        (cond (eqb (length y) 0 && ltb 0 (items (s .tally))) (closing (footRead R s r .tally)) (given (blank 26 (s .tally .id)))) (s .table)
+        (cond (eqb (length y) 0 && ltb 0 (items (s .tally))) (closing (footRead R s r .tally)) (given (blank (s .tally .told) 26 (s .tally .id)))) (s .table)
 
     foot-broken : (r y : List ℕ) → items (s .tally) ≡ 0 → FootEnds r y
     foot-broken r y q = rw (foot-none r q, le-ltb 0 (items (s .tally)) (omega arith), and-false (eqb (length y) 0)) (ends-broken s y)
@@ -219,7 +221,7 @@ module _ (R : Rules) where
         let a : run R (footRead R s r) (b ∷ y) ≡ at 3 [] (footRead R s r) = run-after R (footRead R s r) b y (f .0) in
         let z : eqb (suc (length y)) 0 ≡ false = ne-eqb (suc (length y)) 0 (λ e. omega arith) in
         record {
-          says = rw z (ap (λ (q : State). closing (q .tally)) a ∙ broken-says (footRead R s r) ∙ ap (λ (i : List ℕ). given (blank 26 i)) (f .1));
+          says = rw z (ap (λ (q : State). closing (q .tally)) a ∙ broken-says (footRead R s r) ∙ (λ i. given (blank (f .3 i) 26 (f .1 i))));
           bytes = ap (λ (q : State). q .table) a ∙ f .2;
         }
 
@@ -234,7 +236,8 @@ module _ (R : Rules) where
     abbrev pub RestEnds : List ℕ → Type 0
     RestEnds y =
         Ends (run R s y)
-        (cond (footStands Z y && ltb 0 (items (s .tally))) (closing (footRead R s (take (Z .foot) y) .tally)) (given (blank 26 (s .tally .id)))) (s .table)
+        (cond (footStands Z y && ltb 0 (items (s .tally))) (closing (footRead R s (take (Z .foot) y) .tally))
+        (given (blank (s .tally .told) 26 (s .tally .id)))) (s .table)
 
     rest-foot : (y : List ℕ) → isFoot y ≡ true → RestEnds y
     rest-foot y f = go (ended (Z .foot) y) refl
@@ -388,8 +391,8 @@ module _ (R : Rules) where
               ∙ rw w
 
   -- without a head
-  no-head : (t m : List ℕ) → ended (Z .head) m ≡ false → (verdict R t m ≡ given (blank 26 noId)) × (tableAfter R t m ≡ t)
-  unfolding verdict messageCode identifier tableAfter findings
+  no-head : (t m : List ℕ) → ended (Z .head) m ≡ false → (verdict R t m ≡ given (blank 0 26 noId)) × (tableAfter R t m ≡ t)
+  unfolding verdict messageCode identifier toldBy tableAfter findings
   no-head t m e = (rw (e, le-ltb (length t) 0 (omega arith)), rw e (take-length t))
 
   size-head : (t x : List ℕ) → size (fresh t .tally .phase) x ≡ Z .head + 2
@@ -416,8 +419,8 @@ module _ (R : Rules) where
   pub headless : (t m : List ℕ) → ended (Z .head) m ≡ false → Ends (run R (fresh t) m) (verdict R t m) (tableAfter R t m)
   headless t m e = go (leb (Z .head + 2) (length m)) refl
     where
-      right : Ends (run R (fresh t) m) (given (blank 26 noId)) t → Ends (run R (fresh t) m) (verdict R t m) (tableAfter R t m)
-      right k = ends-at (run R (fresh t) m) (given (blank 26 noId)) (verdict R t m) t (tableAfter R t m) (sym (no-head t m e .0)) (sym (no-head t m e .1)) k
+      right : Ends (run R (fresh t) m) (given (blank 0 26 noId)) t → Ends (run R (fresh t) m) (verdict R t m) (tableAfter R t m)
+      right k = ends-at (run R (fresh t) m) (given (blank 0 26 noId)) (verdict R t m) t (tableAfter R t m) (sym (no-head t m e .0)) (sym (no-head t m e .1)) k
 
       go : (b : Bool) → leb (Z .head + 2) (length m) ≡ b → Ends (run R (fresh t) m) (verdict R t m) (tableAfter R t m)
       go true u = right (rw (head-first t m (leb-true (Z .head + 2) (length m) u) false e) (ends-broken (fresh t) (drop (Z .head + 2) m)))

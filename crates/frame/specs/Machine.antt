@@ -157,7 +157,7 @@ joined (p ∷ ps) = p ++ joined ps
 
 -- the numbers of a tally without a fault
 abbrev pub numbers : Tally → Closing
-numbers c = record { code = 0; accepted = c .accepted; refused = c .refused; zeros = c .zeros; id = c .id }
+numbers c = record { code = 0; told = c .told; accepted = c .accepted; refused = c .refused; zeros = c .zeros; id = c .id }
 
 -- what closing says of a tally
 unfoldable pub closing : Tally → Verdict
@@ -166,5 +166,5 @@ closing c =
     overflow
     (given
     (cond (eqb (c .phase) 2)
-    (cond (c .letter) (blank 36 (c .id)) (cond (eqb (c .code) 0) (numbers c) (blank (c .code) (c .id))))
-    (blank 26 (c .id))))
+    (cond (c .letter) (blank (c .told) 36 (c .id)) (cond (eqb (c .code) 0) (numbers c) (blank (c .told) (c .code) (c .id))))
+    (blank (c .told) 26 (c .id))))

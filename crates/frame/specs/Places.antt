@@ -1,4 +1,4 @@
--- Where the records of an ATUTAL message stand, for a walk over it (01, Records).
+-- Where the records of a message stand, for a walk over it (01, Records).
 -- Assumes nothing.
 use Prim.Native.Nat.{ℕ, _+_, _-_, _*_, _%_}
 use mathlib.Core.Bool.{Bool, cond, _&&_}

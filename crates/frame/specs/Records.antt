@@ -13,7 +13,7 @@ pub record Sizes : Type 0 where
   pub item : ℕ
   pub foot : ℕ
 
--- the lengths of head, item and foot without their ending (002, 1.1, 1.3, 1.2)
+-- the lengths of head, item and foot without their ending (002, 1.1, 1.3, 1.2; the same in 2.1, 2.3, 2.2)
 abbrev pub lengths : Sizes
 lengths = record { head = 174; item = 249; foot = 24 }
 

@@ -12,9 +12,9 @@ mostCode = 99
 abbrev pub mostAmount : ℕ
 mostAmount = 9999999999
 
--- the most that a head tells: nothing, in the one kind there is
+-- the most that a head tells
 abbrev pub mostTold : ℕ
-mostTold = 0
+mostTold = 1
 
 pub record Sound (R : Rules) : Type 0 where
   -- what is told, the codes and the amounts are in their ranges

@@ -10,7 +10,7 @@ use Rattle.frame.specs.declared.Totals.{Totals}
 use Rattle.frame.specs.declared.Closing.{Closing}
 use Rattle.frame.specs.Records.{lengths, noId, idOf, headStands, headOf, itemsOf, footOf, isBroken}
 
--- the field rules of a kind of message. A code is 0 where no fault is found
+-- the field rules of messages. A code is 0 where no fault is found
 pub record Rules : Type 0 where
   -- what the head tells the rules of the items: the one thing that they may take from it
   pub tells : List ℕ → ℕ
@@ -70,23 +70,24 @@ pub record Verdict : Type 0 where
   pub refusal : ℕ
   pub closing : Closing
 
--- a message code and an identifier, with the five numbers at 0
-abbrev pub blank : ℕ → List ℕ → Closing
-blank c id = record { code = c; accepted = none; refused = none; zeros = 0; id = id }
+-- a message code and an identifier beside what the head told, with the five numbers at 0
+abbrev pub blank : ℕ → ℕ → List ℕ → Closing
+blank told c id = record { code = c; told = told; accepted = none; refused = none; zeros = 0; id = id }
 
 -- refused, with nothing to say
 abbrev pub overflow : Verdict
-overflow = record { refusal = 6; closing = blank 0 noId }
+overflow = record { refusal = 6; closing = blank 0 0 noId }
 
 -- not refused
 abbrev pub given : Closing → Verdict
 given c = record { refusal = 0; closing = c }
 
--- the items that were found, with an identifier
-abbrev pub counted : List Found → List ℕ → Closing
-counted fs id =
+-- the items that were found, with what the head told and an identifier
+abbrev pub counted : ℕ → List Found → List ℕ → Closing
+counted told fs id =
     record {
       code = 0;
+      told = told;
       accepted = totalsOf (accepted fs);
       refused = totalsOf (refused fs);
       zeros = watched (accepted fs);
@@ -118,6 +119,10 @@ module _ (R : Rules) where
   unfoldable pub identifier : List ℕ → List ℕ
   identifier m = cond (headStands lengths m) (idOf (headOf lengths m)) noId
 
+  -- what the head told, once one with its right ending was read; else 0
+  unfoldable pub toldBy : List ℕ → ℕ
+  toldBy m = cond (headStands lengths m) (R .tells (headOf lengths m)) 0
+
   -- more complete items before any break than the table has bytes
   abbrev pub overflows : List ℕ → List ℕ → Bool
   overflows t m = ltb (length t) (length (foundIn m))
@@ -127,7 +132,7 @@ module _ (R : Rules) where
   verdict t m =
       cond (overflows t m)
       overflow
-      (given (cond (eqb (messageCode m) 0) (counted (foundIn m) (identifier m)) (blank (messageCode m) (identifier m))))
+      (given (cond (eqb (messageCode m) 0) (counted (toldBy m) (foundIn m) (identifier m)) (blank (toldBy m) (messageCode m) (identifier m))))
 
   -- the table afterwards: the items' codes, each in its own byte, and the other bytes as they were
   unfoldable pub tableAfter : List ℕ → List ℕ → List ℕ

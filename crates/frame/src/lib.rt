@@ -35,9 +35,10 @@ pub struct Tally {
     pub id: [u8; 25],
 }
 
-// What closing gives: the message code, accepted count and sum, refused count and sum, the zero watch, the identifier.
+// What closing gives: the message code, what the head told, accepted count and sum, refused count and sum, the zero watch, the identifier.
 pub struct Closing {
     pub code: u8,
+    pub told: u32,
     pub accepted: Totals,
     pub refused: Totals,
     pub zeros: u64,
@@ -125,7 +126,7 @@ pub const ITEM_ENDED: usize = ITEM + 2;
 pub const FOOT_ENDED: usize = FOOT + 2;
 
 // The most that a head tells.
-pub const MOST_TOLD: u32 = 0;
+pub const MOST_TOLD: u32 = 1;
 
 // The foot stands at a position, with some item before it, and ends the message.
 fn foot_at(message: &[u8], at: usize) -> bool

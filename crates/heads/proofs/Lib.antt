@@ -1,1 +1,1 @@
-pub mod HeadSmall
+pub mod Tables

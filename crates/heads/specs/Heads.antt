@@ -1,27 +1,28 @@
--- The rules of a head as a table, in the standard's order with its positions, and the codes that follow
--- (01, Faults of the whole message; 002 section 1.1.1).
+-- What is found in the fields of a head of either kind, in one row of fields (002 sections 1.1.1 and 2.1.1); the table of its kind
+-- stands in `kinds`, and the code is that table's.
 -- Assumes nothing.
 use Prim.Native.Nat.{ℕ}
-use mathlib.Core.Bool.{Bool, false, cond, not}
+use mathlib.Core.Bool.{Bool, cond}
 use mathlib.Core.List.{List, [], _∷_}
 use lib.ListN.{length}
 use lib.Dec.{eqb}
 use Rattle.base.specs.Bytes.{ascii, field}
-use Rattle.text.specs.Text.{isText}
 use Rattle.digits.specs.Digits.{numberOf}
 use Rattle.account.specs.Account.{accountOf}
 use Rattle.frame.specs.Records.{lengths}
 use Rattle.findings.specs.declared.Finding.the-variants.{Right}
 use Rattle.findings.specs.declared.Answer.the-variants as named
-use Rattle.findings.specs.Codes.{Ü, Rule, rule, always, firstWhole}
-use Rattle.fields.specs.Fields.{markFound, duplicateFound, identifierFound, numberFound, purposeFound, nameFound}
-use Rattle.checked.specs.Checked.{initiatorFound, compiledFound, debitFound, bankFound, accountFound}
+use Rattle.findings.specs.Codes.{Ü, Rule, rule, always}
+use Rattle.fields.specs.Fields.{markFound, duplicateFound, digitFound, identifierFound, numberFound, purposeFound, nameFound, filledFound}
+use Rattle.checked.specs.Checked.{initiatorFound, providerFound, compiledFound, debitFound, bankFound, accountFound}
+use Rattle.kinds.specs.Kinds.{kindOf, isBeszed}
+use Rattle.kinds.specs.Codes.{headLetter, headCode}
 use Rattle.heads.specs.declared.HeadFound.{HeadFound}
 use Rattle.heads.specs.declared.HeadFindings.{HeadFindings}
 
--- 1.1.1: what is found in each field of a head, with E, which banks are listed, and the known list
-unfoldable pub headFields : ℕ → (ℕ → Bool) → List ℕ → List ℕ → HeadFindings
-headFields e isListed known r =
+-- 1.1.1: with E, which banks are listed, and the known list
+unfoldable pub atutalFields : ℕ → (ℕ → Bool) → List ℕ → List ℕ → HeadFindings
+atutalFields e isListed known r =
     record {
       mark = markFound (ascii "01") (field 1 2 r);
       message = markFound (ascii "ATUTAL") (field 3 8 r);
@@ -37,7 +38,30 @@ headFields e isListed known r =
       name = nameFound (field 70 104 r);
     }
 
--- and the codes that follow
+-- 2.1.1, where it differs: duplicate code, initiator and name have rules of their own, message type and debit date none
+unfoldable pub asBeszed : List ℕ → HeadFindings → HeadFindings
+asBeszed r f =
+    record {
+      mark = f .mark;
+      message = Right;
+      duplicate = digitFound (field 9 9 r);
+      initiator = providerFound (field 10 22 r);
+      identifier = f .identifier;
+      date = f .date;
+      number = f .number;
+      bank = f .bank;
+      account = f .account;
+      debit = Right;
+      purpose = f .purpose;
+      name = filledFound (field 70 104 r);
+    }
+
+-- by the kind that the head tells
+unfoldable pub headFields : ℕ → (ℕ → Bool) → List ℕ → List ℕ → HeadFindings
+headFields e isListed known r =
+    cond (isBeszed (kindOf r)) (asBeszed r (atutalFields e isListed known r)) (atutalFields e isListed known r)
+
+-- and the codes that follow: the fields of both kinds in their order; one that a kind has no rule for is right
 unfoldable pub headRulesOf : HeadFindings → List Rule
 headRulesOf f =
     rule named.Type (always (Ü 41)) (f .mark)
@@ -53,9 +77,6 @@ headRulesOf f =
     ∷ rule named.Purpose (always (Ü 48)) (f .purpose)
     ∷ rule named.Name (always (Ü 43)) (f .name)
     ∷ []
-
-unfoldable pub headRules : ℕ → (ℕ → Bool) → List ℕ → List ℕ → List Rule
-headRules e isListed known r = headRulesOf (headFields e isListed known r)
 
 -- what is found in the fields of bytes of any length: nothing where that isn't a head's
 unfoldable pub headFindings : ℕ → (ℕ → Bool) → List ℕ → List ℕ → HeadFindings
@@ -77,13 +98,6 @@ headFindings e isListed known r =
       name = Right;
     })
 
--- text is head 70-174
-abbrev pub headLetter : List ℕ → Bool
-headLetter r = not (isText (field 70 174 r))
-
--- what is found in a head; bytes of another length are a break
+-- a bad letter in a head's text, and the code of its first fault
 unfoldable pub headFound : ℕ → (ℕ → Bool) → List ℕ → List ℕ → HeadFound
-headFound e isListed known r =
-    cond (eqb (length r) (lengths .head))
-    (record { letter = headLetter r; code = firstWhole (headRules e isListed known r) })
-    (record { letter = false; code = 26 })
+headFound e isListed known r = record { letter = headLetter r; code = headCode e isListed known r }

@@ -1,14 +1,15 @@
-// The head of an ATUTAL message (002 section 1.1.1).
+// The head of a message of either kind: what is found in its fields, its code, and the kind that it tells (002 sections 1.1.1 and 2.1.1).
 ghost use mathlib.Core.Path.{_≡_};
 ghost use lib.ListN.{length};
-ghost use Rattle.base.specs.Bytes.{ascii, field, same};
+ghost use Rattle.base.specs.Bytes.{field, same};
 ghost use Rattle.digits.specs.Digits.{numberOf};
 ghost use Rattle.lists.specs.Banks.{foundIn};
 ghost use Rattle.findings.specs.Codes.{firstWhole};
 ghost use Rattle.frame.specs.Records.{lengths};
 ghost use Rattle.fields.specs.Fields.{identifierFound};
 ghost use Rattle.checked.specs.Checked.{debitFound};
-ghost use Rattle.heads.specs.Heads.{headFields, headFindings, headRulesOf, headFound};
+ghost use Rattle.kinds.specs.Kinds.{kindOf};
+ghost use Rattle.heads.specs.Heads.{atutalFields, asBeszed, headFields, headFindings, headRulesOf, headFound};
 use findings::Finding;
 use findings::Kind;
 use findings::found;
@@ -36,15 +37,30 @@ pub struct HeadFindings {
     pub name: Finding,
 }
 
-// The bytes are ATUTAL.
-fn is_atutal(s: &[u8]) -> bool
-    ensures { λ r. ⌜ r ≡ same (now (s .entry)) (ascii "ATUTAL") ⌝ }
+// The bytes are a word of six letters.
+fn is_word(s: &[u8], word: &[u8]) -> bool
+    requires { ⌜ length (now word) ≡ 6 ⌝ }
+    ensures { λ r. ⌜ r ≡ same (now (s .entry)) (now (word .entry)) ⌝ }
 {
     if s.len() != 6 {
         return false;
     }
-    (s[0] == b'A')
-        & ((s[1] == b'T') & ((s[2] == b'U') & ((s[3] == b'T') & ((s[4] == b'A') & (s[5] == b'L')))))
+    (s[0] == word[0])
+        & ((s[1] == word[1])
+            & ((s[2] == word[2]) & ((s[3] == word[3]) & ((s[4] == word[4]) & (s[5] == word[5])))))
+}
+
+// The kind that a head tells by its positions 3-8: 1 for BESZED, 0 for ATUTAL, which any other bytes are (02, #101).
+pub fn kind_of(r: &[u8]) -> u32
+    ensures { λ k. ⌜ k ≡ kindOf (now (r .entry)) ⌝ }
+{
+    if r.len() < 8 {
+        return kinds::ATUTAL;
+    }
+    if is_word(&r[2..8], b"BESZED") {
+        return kinds::BESZED;
+    }
+    kinds::ATUTAL
 }
 
 // The identifier of a whole head: not one of the known list.
@@ -64,15 +80,15 @@ fn debit_in(r: &[u8], e: u32) -> Finding
     checked::debit_found(&r[58..66], e, c)
 }
 
-// What is found in the fields of a whole head.
-fn fields_in(r: &[u8], e: u32, banks: &[u32], known: &[u8]) -> HeadFindings
+// What is found in the fields of a whole head by the rules of ATUTAL.
+fn atutal_in(r: &[u8], e: u32, banks: &[u32], known: &[u8]) -> HeadFindings
     requires { ⌜ length (now r) ≡ lengths .head ⌝ }
-    ensures { λ f. ⌜ f ≡ headFields e (foundIn (now (banks .entry))) (now (known .entry)) (now (r .entry)) ⌝ }
+    ensures { λ f. ⌜ f ≡ atutalFields e (foundIn (now (banks .entry))) (now (known .entry)) (now (r .entry)) ⌝ }
 {
     let b = r[8];
     HeadFindings {
         mark: fields::type_found(&r[0..2], b'1'),
-        message: found(is_atutal(&r[2..8]), Kind::Mark),
+        message: found(is_word(&r[2..8], b"ATUTAL"), Kind::Mark),
         duplicate: found(digits::is_digit(b) | (b == b'@'), Kind::Mark),
         initiator: checked::initiator_found(&r[9..22]),
         identifier: identifier_in(r, known),
@@ -84,6 +100,46 @@ fn fields_in(r: &[u8], e: u32, banks: &[u32], known: &[u8]) -> HeadFindings
         purpose: found(purposes::is_purpose(&r[66..69]), Kind::NotListed),
         name: found(!text::is_blank(&r[69..104]), Kind::BlankOrZero),
     }
+}
+
+// What is found in the fields of a whole head by the rules of BESZED, with what is found by those that it shares with ATUTAL.
+fn beszed_in(r: &[u8], f: HeadFindings) -> HeadFindings
+    requires { ⌜ length (now r) ≡ lengths .head ⌝ }
+    ensures { λ g. ⌜ g ≡ asBeszed (now (r .entry)) f ⌝ }
+{
+    let mark = f.mark;
+    let identifier = f.identifier;
+    let date = f.date;
+    let number = f.number;
+    let bank = f.bank;
+    let account = f.account;
+    let purpose = f.purpose;
+    HeadFindings {
+        mark: mark,
+        message: Finding::Right,
+        duplicate: found(digits::is_digit(r[8]), Kind::Mark),
+        initiator: checked::provider_found(&r[9..22]),
+        identifier: identifier,
+        date: date,
+        number: number,
+        bank: bank,
+        account: account,
+        debit: Finding::Right,
+        purpose: purpose,
+        name: found(!text::is_blank_or_zero(&r[69..104]), Kind::BlankOrZero),
+    }
+}
+
+// What is found in the fields of a whole head, by the kind that it tells.
+fn fields_in(r: &[u8], e: u32, banks: &[u32], known: &[u8]) -> HeadFindings
+    requires { ⌜ length (now r) ≡ lengths .head ⌝ }
+    ensures { λ f. ⌜ f ≡ headFields e (foundIn (now (banks .entry))) (now (known .entry)) (now (r .entry)) ⌝ }
+{
+    let f = atutal_in(r, e, banks, known);
+    if kind_of(r) == kinds::BESZED {
+        return beszed_in(r, f);
+    }
+    f
 }
 
 // What is found in the fields of a head, with E, the bank list and the known list; nothing in bytes of another length.

@@ -21,16 +21,16 @@ use Rattle.lent.specs.declared.Refusal.the-variants as refusal
 use Rattle.lent.specs.declared.Outcome.{Outcome}
 use Rattle.lent.specs.declared.Outcome.the-variants.{Done, Refused}
 use Rattle.frame.specs.Records.{lengths, footOf}
-use Rattle.frame.specs.Verdict.{Rules, Verdict, foundIn, messageCode, identifier, overflows, verdict, tableAfter, blank, overflow, given, counted}
+use Rattle.frame.specs.Verdict.{Rules, Verdict, foundIn, messageCode, identifier, toldBy, overflows, verdict, tableAfter, blank, overflow, given, counted}
 use Rattle.frame.specs.Machine.{State, fresh, run, closing, joined}
 use Rattle.frame.proofs.Pieces.{run-append}
 use Rattle.frame.proofs.Whole.{uncut}
 use Rattle.frame.proofs.Faults.{totals as foot-totals}
-use Rattle.atutal.specs.Codes.{rules, memberRules}
-use Rattle.atutal.specs.Faultless.{Faultless}
-use Rattle.atutal.proofs.Instance.{sound}
-use Rattle.atutal.proofs.Listed.{by-membership}
-use Rattle.atutal.proofs.Faultless.{faultless, faultless-code}
+use Rattle.kinds.specs.Codes.{rules, memberRules}
+use Rattle.kinds.specs.Faultless.{Faultless}
+use Rattle.kinds.proofs.Instance.{sound}
+use Rattle.kinds.proofs.Listed.{by-membership}
+use Rattle.kinds.proofs.Faultless.{faultless, faultless-code}
 use Rattle.judge.specs.declared.Closed.{Closed}
 use Rattle.judge.specs.Session.{most, sessionOf, give, openRefused, opened, pieceRefused, taken, tableTaken}
 use Rattle.judge.specs.Session.{outcomeOf, closedAs, closedOf, wholeRefused, judgedOf, tableJudged}
@@ -184,18 +184,28 @@ done-none v e = go (eqb (v .refusal) 0) refl e
     go true q e = eqb-true (v .refusal) 0 q
     go false q e = absurd (refused-done e)
 
--- where nothing is refused, the code is the message's
-verdict-code : (R : Rules) (t m : List ℕ) → verdict R t m .refusal ≡ 0 → verdict R t m .closing .code ≡ messageCode R m
-unfolding verdict
-verdict-code R t m r = go (overflows R t m) (eqb (messageCode R m) 0) refl r
-  where
-    v : Bool → Bool → Verdict
-    v o z = cond o overflow (given (cond z (counted (foundIn R m) (identifier R m)) (blank (messageCode R m) (identifier R m))))
+-- where nothing is refused, the code is the message's, and what is told is what its head told
+module _ (R : Rules) (t m : List ℕ) where
+  abbrev said : Bool → Bool → Verdict
+  said o z = cond o overflow (given (cond z (counted (toldBy R m) (foundIn R m) (identifier R m)) (blank (toldBy R m) (messageCode R m) (identifier R m))))
 
-    go : (o z : Bool) → eqb (messageCode R m) 0 ≡ z → v o z .refusal ≡ 0 → v o z .closing .code ≡ messageCode R m
-    go true z q r = absurd (omega arith)
-    go false true q r = sym (eqb-true (messageCode R m) 0 q)
-    go false false q r = refl
+  verdict-code : verdict R t m .refusal ≡ 0 → verdict R t m .closing .code ≡ messageCode R m
+  unfolding verdict
+  verdict-code r = go (overflows R t m) (eqb (messageCode R m) 0) refl r
+    where
+      go : (o z : Bool) → eqb (messageCode R m) 0 ≡ z → said o z .refusal ≡ 0 → said o z .closing .code ≡ messageCode R m
+      go true z q r = absurd (omega arith)
+      go false true q r = sym (eqb-true (messageCode R m) 0 q)
+      go false false q r = refl
+
+  verdict-told : verdict R t m .refusal ≡ 0 → verdict R t m .closing .told ≡ toldBy R m
+  unfolding verdict
+  verdict-told r = go (overflows R t m) (eqb (messageCode R m) 0) r
+    where
+      go : (o z : Bool) → said o z .refusal ≡ 0 → said o z .closing .told ≡ toldBy R m
+      go true z r = absurd (omega arith)
+      go false true r = refl
+      go false false r = refl
 
 -- a message in any pieces, where closing isn't refused: the table had a byte for each item
 module _ (l : Lent) (t : List ℕ) (ps : List (List ℕ)) (g : Passing l) (h : length t ≤ most) where
@@ -213,6 +223,10 @@ module _ (l : Lent) (t : List ℕ) (ps : List (List ℕ)) (g : Passing l) (h : l
 
   code-is : c .closing .code ≡ v .closing .code
   code-is = ap (λ (x : Closed). x .closing .code) says
+
+  -- what the head told is given with every code
+  pub told-is : c .outcome ≡ Done → c .closing .told ≡ toldBy (rules l) (joined ps)
+  told-is o = ap (λ (x : Closed). x .closing .told) says ∙ verdict-told (rules l) t (joined ps) (unrefused o)
 
   -- with code 00, accepted and refused items number what the foot says, and their amounts make its sum
   pub totals : c .outcome ≡ Done → c .closing .code ≡ 0

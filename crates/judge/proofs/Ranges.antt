@@ -20,8 +20,8 @@ use Rattle.frame.specs.Records.{lengths, ended, isFoot}
 use Rattle.frame.specs.Verdict.{Rules}
 use Rattle.frame.specs.Sound.{Sound, mostCode, mostAmount, mostTold}
 use Rattle.frame.specs.Machine.{State, fresh, at, items, size, headRead, itemCounted, itemRead, footRead, judged, pushed, step, run}
-use Rattle.atutal.specs.Codes.{rules}
-use Rattle.atutal.proofs.Instance.{sound}
+use Rattle.kinds.specs.Codes.{rules}
+use Rattle.kinds.proofs.Instance.{sound}
 use Rattle.judge.specs.declared.Session.{Session}
 use Rattle.judge.specs.Session.{
   most,

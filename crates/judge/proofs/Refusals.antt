@@ -18,7 +18,7 @@ use Rattle.lent.proofs.Refusals.{done, as-tested, after-lists}
 use Rattle.frame.specs.Verdict.{Verdict, overflows, verdict, overflow, given}
 use Rattle.frame.specs.Machine.{closing, joined}
 use Rattle.frame.specs.declared.Closing.{Closing}
-use Rattle.atutal.specs.Codes.{rules}
+use Rattle.kinds.specs.Codes.{rules}
 use Rattle.judge.specs.declared.Session.{Session}
 use Rattle.judge.specs.declared.Taken.{Taken}
 use Rattle.judge.specs.declared.Closed.{Closed}

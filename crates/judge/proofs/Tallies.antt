@@ -21,8 +21,8 @@ use Rattle.frame.specs.Machine.{phased, items, sum, earlier, more, numbers, clo
 use Rattle.frame.specs.Machine.{itemTally, itemCounted, headTally, headRead, itemRead, footTally, footRead, judged}
 use Rattle.heads.specs.declared.HeadFound.{HeadFound}
 use Rattle.heads.specs.Heads.{headFound}
-use Rattle.atutal.specs.Codes.{rules, itemFound, footCode}
-use Rattle.atutal.proofs.Bounds.{small}
+use Rattle.kinds.specs.Codes.{rules, itemFound, footCode}
+use Rattle.kinds.proofs.Bounds.{small}
 use Rattle.judge.specs.Session.{stateWith, tallyInRange}
 use Rattle.judge.specs.Inner.{Ready, Countable, Summed, Read, ItemRead, FootRead}
 
@@ -85,15 +85,15 @@ module _ (room : ℕ) (c : Tally) where
 -- closing, by the phase, the letter and the code
 module _ (s : Tally) where
   module _ (k : Closing) where
-    pub close-broken : s .phase ≤ 3 → (s .phase ≡ 2 → ⊥) → k ≡ blank 26 (s .id) → k ≡ closing s .closing
+    pub close-broken : s .phase ≤ 3 → (s .phase ≡ 2 → ⊥) → k ≡ blank (s .told) 26 (s .id) → k ≡ closing s .closing
     unfolding closing
     close-broken h e q = rw (ne-eqb (s .phase) 4 (λ e. omega arith), ne-eqb (s .phase) 2 e) q
 
-    pub close-letter : s .phase ≡ 2 → s .letter ≡ true → k ≡ blank 36 (s .id) → k ≡ closing s .closing
+    pub close-letter : s .phase ≡ 2 → s .letter ≡ true → k ≡ blank (s .told) 36 (s .id) → k ≡ closing s .closing
     unfolding closing
     close-letter p l q = rw (p, l) q
 
-    pub close-fault : s .phase ≡ 2 → s .letter ≡ false → (s .code ≡ 0 → ⊥) → k ≡ blank (s .code) (s .id) → k ≡ closing s .closing
+    pub close-fault : s .phase ≡ 2 → s .letter ≡ false → (s .code ≡ 0 → ⊥) → k ≡ blank (s .told) (s .code) (s .id) → k ≡ closing s .closing
     unfolding closing
     close-fault p l d q = rw (p, l, ne-eqb (s .code) 0 d) q
 
@@ -102,11 +102,11 @@ module _ (s : Tally) where
   close-right p l d = rw (p, l, d)
 
 -- a head is read
-pub head-read : (l : Lent) (r : List ℕ) (s : Tally) (f : HeadFound) (i : List ℕ)
-    → f ≡ headFound (l .day) (foundIn (l .lists .banks)) (l .lists .known) r → i ≡ idOf r
+pub head-read : (l : Lent) (r : List ℕ) (s : Tally) (f : HeadFound) (k : ℕ) (i : List ℕ)
+    → f ≡ headFound (l .day) (foundIn (l .lists .banks)) (l .lists .known) r → k ≡ rules l .tells r → i ≡ idOf r
     → _≡_ {A = Tally} (record {
       phase = 1;
-      told = 0;
+      told = k;
       letter = f .letter;
       code = f .code;
       accepted = s .accepted;
@@ -115,8 +115,8 @@ pub head-read : (l : Lent) (r : List ℕ) (s : Tally) (f : HeadFound) (i : List 
       id = i;
     })
     (headTally (rules l) s r)
-unfolding headTally
-head-read l r s f i p q = rw (p, q)
+unfolding headTally headFound
+head-read l r s f k i p o q = rw (p, o, q)
 
 -- what is found in an item is counted
 pub item-counted : (s : Tally) (f : Found) (d : ℕ) (a b : Totals) (z : ℕ) → d ≡ earlier (s .code) (f .fault)
@@ -159,14 +159,14 @@ module _ (s : Tally) (r : List ℕ) where
 
 -- an item is read
 module _ (e : ℕ) (banks : List ℕ) (s n : Tally) (t r : List ℕ) where
-  pub item-read : items s < length t → (f : Found) → f ≡ itemFound (foundIn banks) (items s + 1) r → n ≡ itemTally s f
+  pub item-read : items s < length t → (f : Found) → f ≡ itemFound (s .told) e (foundIn banks) (items s + 1) r → n ≡ itemTally s f
       → ItemRead e banks s t r n (set t (items s) (f .code))
   unfolding itemRead itemCounted
   item-read h f p q =
       record {
         reads = λ l d b.
-            let g : f ≡ itemFound (foundIn (l .lists .banks)) (items s + 1) r =
-            p ∙ ap (λ (bs : List ℕ). itemFound (foundIn bs) (items s + 1) r) (sym b) in
+            let g : f ≡ itemFound (s .told) (l .day) (foundIn (l .lists .banks)) (items s + 1) r =
+            p ∙ sym (λ i. itemFound (s .told) (d i) (foundIn (b i)) (items s + 1) r) in
             record { tally = rw (lt-ltb (items s) (length t) h, ← g) q; bytes = rw (lt-ltb (items s) (length t) h, ← g) };
       }
 
@@ -178,9 +178,10 @@ module _ (e : ℕ) (banks : List ℕ) (s n : Tally) (t r : List ℕ) where
       }
 
 -- what is found in an item can be counted, where the tally is ready
-pub countable : (s : Tally) (t banks : List ℕ) (k : ℕ) (r : List ℕ) (f : Found) → Ready s t → f ≡ itemFound (foundIn banks) k r → Countable s f
-countable s t banks k r f y e =
-    let a : f .amount < 10 ^ 10 = rw e (small (foundIn banks) k r .amount) in
+pub countable : (s : Tally) (t : List ℕ) (day : ℕ) (banks : List ℕ) (k : ℕ) (r : List ℕ) (f : Found) → Ready s t
+    → f ≡ itemFound (s .told) day (foundIn banks) k r → Countable s f
+countable s t day banks k r f y e =
+    let a : f .amount < 10 ^ 10 = rw e (small (s .told) day (foundIn banks) k r .amount) in
     record {
       accepted = omega (arith, y .items, y .most);
       refused = omega (arith, y .items, y .most);

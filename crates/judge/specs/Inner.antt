@@ -10,7 +10,7 @@ use Rattle.frame.specs.declared.Tally.{Tally}
 use Rattle.frame.specs.Verdict.{Rules}
 use Rattle.frame.specs.Machine.{State, items, sum, size, itemRead, footTally, run}
 use Rattle.frame.specs.Sound.{mostCode, mostAmount, mostTold}
-use Rattle.atutal.specs.Codes.{rules}
+use Rattle.kinds.specs.Codes.{rules}
 use Rattle.judge.specs.declared.Left.{Left}
 use Rattle.judge.specs.declared.Walked.{Walked}
 use Rattle.judge.specs.Session.{most, pad, stateWith}

@@ -10,7 +10,7 @@ use Rattle.calendar.specs.Calendar.{isDate}
 use Rattle.lent.specs.Lent.{Lists, Lent}
 use Rattle.lent.specs.Refusals.{listRefusals}
 use Rattle.frame.specs.Verdict.{overflows}
-use Rattle.atutal.specs.Codes.{rules}
+use Rattle.kinds.specs.Codes.{rules}
 use Rattle.judge.specs.declared.Session.{Session}
 use Rattle.judge.specs.Session.{most, longest, inRange}
 

@@ -19,7 +19,7 @@ use Rattle.frame.specs.Records.{itemEnd, noId}
 use Rattle.frame.specs.Verdict.{Verdict, verdict, tableAfter, blank}
 use Rattle.frame.specs.Machine.{State, unread, phased, fresh, items, size, run, closing}
 use Rattle.frame.specs.Sound.{mostCode, mostAmount, mostTold}
-use Rattle.atutal.specs.Codes.{rules}
+use Rattle.kinds.specs.Codes.{rules}
 use Rattle.judge.specs.declared.Session.{Session}
 use Rattle.judge.specs.declared.Taken.{Taken}
 use Rattle.judge.specs.declared.Step.{Step}
@@ -135,9 +135,9 @@ pub record Stepped (e room : ℕ) (c : Tally) (fill : ℕ) (h p : List ℕ) (l :
   pub result : give (r .outcome) (partsOf e room (r .tally) (r .fill) h′) ≡ stepped (partsOf e room c fill h) p l t
   pub bytes : t′ ≡ tableStepped (partsOf e room c fill h) p l t
 
--- the five numbers at 0, and spaces
+-- nothing told, the five numbers at 0, and spaces
 abbrev pub noClosing : Closing
-noClosing = blank 0 noId
+noClosing = blank 0 0 noId
 
 -- a verdict is given, or overflow is refused
 abbrev pub outcomeOf : Verdict → Outcome

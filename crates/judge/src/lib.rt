@@ -8,7 +8,7 @@ ghost use lib.ListN.{length, take, drop};
 ghost use Rattle.lent.specs.Lent.{listed, lent};
 ghost use Rattle.frame.specs.Verdict.{blank};
 ghost use Rattle.frame.specs.Machine.{unread, phased, more, itemTally, size, headTally, judged, run, closing};
-ghost use Rattle.atutal.specs.Codes.{rules};
+ghost use Rattle.kinds.specs.Codes.{rules};
 ghost use Rattle.judge.specs.Session.{
   most,
   longest,
@@ -177,7 +177,7 @@ fn head_read(tally: Tally, r: &[u8], day: u32, banks: &[u32], known: &[u8]) -> T
     let b = tally.refused;
     Tally {
         phase: 1,
-        told: 0,
+        told: heads::kind_of(r),
         letter: f.letter,
         code: f.code,
         accepted: a,
@@ -219,7 +219,7 @@ fn item_read(tally: Tally, r: &[u8], day: u32, banks: &[u32], table: &mut [u8]) 
     let k = a.count + b.count;
     let at = k as usize;
     if at < table.len() {
-        let f = atutal::item::found_in(r, k + 1, banks);
+        let f = items::item::found_in(r, k + 1, tally.told, day, banks);
         table[at] = f.code;
         return counted(tally, f);
     }
@@ -239,7 +239,7 @@ fn foot_read(tally: Tally, r: &[u8]) -> Tally
     }
     let mut t = tally;
     t.phase = 2;
-    t.code = findings::earlier(tally.code, atutal::foot::code_in(r, items, a.sum + b.sum));
+    t.code = findings::earlier(tally.code, items::foot::code_in(r, items, a.sum + b.sum));
     t
 }
 
@@ -616,7 +616,7 @@ impl Session {
         if !self.in_range() {
             return Closed {
                 outcome: Outcome::Refused(Refusal::Session),
-                closing: blank(0, [b' '; 25]),
+                closing: blank(0, 0, [b' '; 25]),
                 next: self,
             };
         }
@@ -624,7 +624,7 @@ impl Session {
         if t.phase == 4 {
             return Closed {
                 outcome: Outcome::Refused(Refusal::Overflow),
-                closing: blank(0, [b' '; 25]),
+                closing: blank(0, 0, [b' '; 25]),
                 next: Session::closed(),
             };
         }
@@ -636,13 +636,14 @@ impl Session {
     }
 }
 
-// A code with the five numbers at 0, and an identifier.
-fn blank(code: u8, id: [u8; 25]) -> Closing
-    ensures { λ r. ⌜ r ≡ blank code id ⌝ }
+// What the head told, a code with the five numbers at 0, and an identifier.
+fn blank(told: u32, code: u8, id: [u8; 25]) -> Closing
+    ensures { λ r. ⌜ r ≡ blank told code id ⌝ }
 {
     let none = Totals { count: 0, sum: 0 };
     Closing {
         code: code,
+        told: told,
         accepted: none,
         refused: none,
         zeros: 0,
@@ -657,19 +658,20 @@ fn closing_of(t: Tally) -> Closing
 {
     let id = t.id;
     if t.phase != 2 {
-        return blank(26, id);
+        return blank(t.told, 26, id);
     }
     if t.letter {
-        return blank(36, id);
+        return blank(t.told, 36, id);
     }
     let code = t.code;
     if code != 0 {
-        return blank(code, id);
+        return blank(t.told, code, id);
     }
     let a = t.accepted;
     let r = t.refused;
     Closing {
         code: 0,
+        told: t.told,
         accepted: a,
         refused: r,
         zeros: t.zeros,

@@ -113,6 +113,7 @@ fn window(s: &[u8]) {
     let later = field(s, 8, 16);
     put_flag(calendar::is_within(first, later, field(s, 16, 21)));
     put_flag(calendar::is_before(first, later));
+    put_flag(calendar::is_due(first, later));
 }
 
 // Each number is above the one before it.
@@ -165,7 +166,7 @@ fn foot(s: &[u8]) {
     }
     let count = digits::number(&s[0..10]);
     let sum = digits::number(&s[10..26]);
-    put_next(atutal::foot::code_in(&s[26..], count, sum) as u64);
+    put_next(items::foot::code_in(&s[26..], count, sum) as u64);
 }
 
 fn answer(command: u8, s: &[u8]) {

@@ -1,11 +1,13 @@
--- Examples of numbers, of slips and of a STATUS in words, the four lines of document 01 among them, each group computed at once.
+-- Examples of numbers, of slips and of a STATUS in words, the empty message's five lines among them, each group computed at once.
 -- Assumes nothing.
+use Prim.Native.Nat.{ℕ}
 use mathlib.Core.Path.{_≡_, refl}
-use mathlib.Core.List.{[], _∷_, _++_, map}
+use mathlib.Core.List.{List, [], _∷_, _++_, map}
 use Rattle.base.specs.Bytes.{ascii}
 use Rattle.digits.specs.Digits.{figures}
 use Rattle.frame.specs.Records.{noId}
-use Rattle.frame.specs.Verdict.{none}
+use Rattle.frame.specs.Verdict.{none, blank}
+use Rattle.kinds.specs.Kinds.{ATUTAL, BESZED}
 use Rattle.lent.specs.declared.Refusal.the-variants.{NotADay, Overflow}
 use Rattle.lines.specs.Slip.{lineEnd, places, slipOf, refusalLine}
 use Rattle.lines.specs.Facts.{orderLine, addressLines, ownLines, countLines, statusText, itemLine}
@@ -15,10 +17,13 @@ pub digits : map places (0 ∷ 9 ∷ 10 ∷ 99 ∷ 100 ∷ 18446744073709551615 
 unfolding places
 digits = refl
 
--- the closing of an empty message: 01's four lines
-pub broken :
-    slipOf (record { code = 26; accepted = none; refused = none; zeros = 0; id = noId })
-    ≡ ascii "MESSAGE 26" ++ lineEnd ++ ascii "ACCEPTED 0 0" ++ lineEnd ++ ascii "REFUSED 0 0" ++ lineEnd ++ ascii "ZERO 0" ++ lineEnd
+-- what a closing with code 26 says after its kind: 01's four lines
+abbrev brokenLines : List ℕ
+brokenLines = ascii "MESSAGE 26" ++ lineEnd ++ ascii "ACCEPTED 0 0" ++ lineEnd ++ ascii "REFUSED 0 0" ++ lineEnd ++ ascii "ZERO 0" ++ lineEnd
+
+-- the closings of an empty message, and of a BESZED's head alone (02, #101)
+pub broken : map (λ told. slipOf (blank told 26 noId)) (ATUTAL ∷ BESZED ∷ [])
+    ≡ (ascii "KIND ATUTAL" ++ lineEnd ++ brokenLines) ∷ (ascii "KIND BESZED" ++ lineEnd ++ brokenLines) ∷ []
 unfolding slipOf figures places
 broken = refl
 

@@ -1,4 +1,4 @@
--- The slip: four lines from a closing, or a refusal's number (01, Examples, the slip program).
+-- The slip: five lines from a closing, or a refusal's number (01, Examples, the slip program; 02, #101).
 -- Assumes nothing.
 use Prim.Native.Nat.{ℕ, zero, suc, _+_, _/_}
 use mathlib.Core.Bool.{cond}
@@ -10,6 +10,7 @@ use Rattle.lent.specs.Lent.{refusalNumber}
 use Rattle.lent.specs.declared.Refusal.{Refusal}
 use Rattle.frame.specs.declared.Totals.{Totals}
 use Rattle.frame.specs.declared.Closing.{Closing}
+use Rattle.kinds.specs.Kinds.{isBeszed}
 
 -- each line is ended by 0Ah
 abbrev pub lineEnd : List ℕ
@@ -36,10 +37,18 @@ line word w n = word ++ figures w n ++ lineEnd
 abbrev pub totalsLine : List ℕ → Totals → List ℕ
 totalsLine word t = word ++ figures (places (t .count)) (t .count) ++ line (ascii " ") (places (t .sum)) (t .sum)
 
+-- the kind that the head told, the end: 12 bytes for either
+abbrev pub kindLine : ℕ → List ℕ
+kindLine told = cond (isBeszed told) (ascii "KIND BESZED" ++ lineEnd) (ascii "KIND ATUTAL" ++ lineEnd)
+
+-- the lines of the kind and of the message code
+abbrev pub frontLines : ℕ → ℕ → List ℕ
+frontLines told code = kindLine told ++ line (ascii "MESSAGE ") (codeWidth code) code
+
 -- what a closing says
 unfoldable pub slipOf : Closing → List ℕ
 slipOf k =
-    line (ascii "MESSAGE ") (codeWidth (k .code)) (k .code)
+    frontLines (k .told) (k .code)
     ++ totalsLine (ascii "ACCEPTED ") (k .accepted)
     ++ totalsLine (ascii "REFUSED ") (k .refused)
     ++ line (ascii "ZERO ") (places (k .zeros)) (k .zeros)

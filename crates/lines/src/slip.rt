@@ -1,9 +1,9 @@
-// What the slip program prints: the four lines of a closing, or a refusal's number (01, Examples).
+// What the slip program prints: the five lines of a closing, or a refusal's number (01, Examples; 02, #101).
 ghost use mathlib.Core.Path.{_≡_};
 ghost use Prim.Native.Nat.{_+_, _^_, _≤_, _<_};
 ghost use lib.ListN.{length};
 ghost use Rattle.base.specs.Put.{Written, Put};
-ghost use Rattle.lines.specs.Slip.{places, codeWidth, line, totalsLine, slipOf, refusalLine};
+ghost use Rattle.lines.specs.Slip.{places, codeWidth, line, totalsLine, kindLine, frontLines, slipOf, refusalLine};
 use frame::Closing;
 use frame::Totals;
 use lent::Refusal;
@@ -48,6 +48,25 @@ pub(crate) fn put_totals(out: &mut [u8], at: usize, word: &[u8], t: Totals) -> u
     put_line(out, i, b" ", places(t.sum), t.sum)
 }
 
+// The line of the kind that the head told: 1 is BESZED, any other number ATUTAL.
+fn kind_line(told: u32) -> [u8; 12]
+    ensures { λ r. ⌜ r ≡ kindLine told ⌝ }
+{
+    if told == kinds::BESZED {
+        return *b"KIND BESZED\n";
+    }
+    *b"KIND ATUTAL\n"
+}
+
+// The lines of the kind and of the message code, at the front of the output.
+fn put_front(out: &mut [u8], told: u32, code: u8) -> usize
+    requires { ⌜ length (frontLines told code) ≤ length (now out) ⌝ }
+    ensures { λ r. ⌜ Put (now (out .entry)) 0 (frontLines told code) r (now (out .exit)) ⌝ }
+{
+    let i = text::put_at(out, 0, &kind_line(told));
+    put_line(out, i, b"MESSAGE ", code_width(code), code as u64)
+}
+
 // How long a closing's slip is.
 fn slip_length(k: Closing) -> usize
     ensures { λ r. ⌜ r ≡ length (slipOf k) ⌝ }
@@ -56,10 +75,10 @@ fn slip_length(k: Closing) -> usize
     let b = k.refused;
     let accepted = places(a.count) + places(a.sum);
     let refused = places(b.count) + places(b.sum);
-    36 + code_width(k.code) + accepted + refused + places(k.zeros)
+    48 + code_width(k.code) + accepted + refused + places(k.zeros)
 }
 
-// The four lines of a closing, at the front of the output; their length, or 0 where it is too short, and then it stays as it was.
+// The five lines of a closing, at the front of the output; their length, or 0 where it is too short, and then it stays as it was.
 pub fn put_closing(out: &mut [u8], k: Closing) -> usize
     ensures { λ r. ⌜ Written (slipOf k) (now (out .entry)) r (now (out .exit)) ⌝ }
 {
@@ -68,7 +87,7 @@ pub fn put_closing(out: &mut [u8], k: Closing) -> usize
     }
     let a = k.accepted;
     let b = k.refused;
-    let i = put_line(out, 0, b"MESSAGE ", code_width(k.code), k.code as u64);
+    let i = put_front(out, k.told, k.code);
     let i = put_totals(out, i, b"ACCEPTED ", a);
     let i = put_totals(out, i, b"REFUSED ", b);
     put_line(out, i, b"ZERO ", places(k.zeros), k.zeros)

@@ -16,6 +16,7 @@ fn refused(r: Refusal) -> Judged
     let none = Totals { count: 0, sum: 0 };
     let closing = Closing {
         code: 0,
+        told: 0,
         accepted: none,
         refused: none,
         zeros: 0,

@@ -10,7 +10,7 @@ use borrow.Author.Tests.{eq-eqb}
 use Rattle.lent.specs.Lent.{Lists, Lent, listRefused, outcomeNumber}
 use Rattle.frame.specs.Verdict.{verdict, tableAfter}
 use Rattle.frame.specs.Machine.{joined}
-use Rattle.atutal.specs.Codes.{rules}
+use Rattle.kinds.specs.Codes.{rules}
 use Rattle.judge.specs.declared.Session.{Session}
 use Rattle.lent.specs.declared.Outcome.the-variants.{Done}
 use Rattle.judge.specs.declared.Judged.{Judged}
@@ -34,7 +34,7 @@ use Rattle.judge.specs.Session.{
   tableJudged,
 }
 use Rattle.judge.specs.Feeding.{fed, judgedFrom}
-use Rattle.atutal.proofs.Instance.{sound}
+use Rattle.kinds.proofs.Instance.{sound}
 use Rattle.judge.proofs.Ranges.{kept-run, kept-session, open-passes, opened-in-range, taken-in-range}
 use Rattle.judge.proofs.Great.{Passing, great}
 use Rattle.packed.specs.Packed.{packedBytes, isPacked, unpacked}
@@ -117,7 +117,7 @@ module _ (l : Lent) (t : List ℕ) (g : Passing l) (h : length t ≤ most) where
     unfolding tableJudged wholeRefused
     judged-table = rw (passed, g .lists)
 
-  pub by-pieces : (ps : List (List ℕ)) (x ns id : List ℕ) → length x ≡ packedBytes → length ns ≡ 6 → length id ≡ 25
+  pub by-pieces : (ps : List (List ℕ)) (x ns id : List ℕ) → length x ≡ packedBytes → length ns ≡ 7 → length id ≡ 25
       → {o : ℕ} {x₁ : List ℕ} → OpenedAs e t x o x₁
       → {rs x₂ t′ : List ℕ} → Given (l .lists) x₁ t ps rs x₂ t′
       → {r : ℕ} {x₃ ns′ id′ : List ℕ} → ClosedAs x₂ ns id r x₃ ns′ id′
@@ -132,7 +132,7 @@ module _ (l : Lent) (t : List ℕ) (g : Passing l) (h : length t ≤ most) where
       let j : judgedFrom (closedOf (unpacked x₂)) ≡ judgedOf l t m =
       ap (λ (s : Session). judgedFrom (closedOf s)) (f .session) ∙ ap judgedFrom (w .0) ∙ sym (judged m) in
       let p = eq-eqb (length x₂) packedBytes (open-long x₂ (f .range)) in
-      let n = eq-eqb (length ns) 6 hn in
+      let n = eq-eqb (length ns) 7 hn in
       let i = eq-eqb (length id) 25 hi in
       record {
         opening = a .answer ∙ rw q (opens .0);

@@ -35,15 +35,15 @@ sizes ns k id f =
     (eqb-true (length ns) k (h .0), eqb-true (length id) 25 (h .1))
 
 module _ {m : List ℕ} {l : Lent} {t ns id : List ℕ} where
-  pub judge-wrong : not (sizedBoth ns 6 id) ≡ true → JudgedNumbers m l t ns id 99 t ns id
+  pub judge-wrong : not (sizedBoth ns 7 id) ≡ true → JudgedNumbers m l t ns id 99 t ns id
   judge-wrong f =
-      let h = not-true (sizedBoth ns 6 id) f in
+      let h = not-true (sizedBoth ns 7 id) f in
       record { answer = rw h; table = rw h; numbers = refl; identifier = refl }
 
-  pub judge-told : not (sizedBoth ns 6 id) ≡ false → {j : Judged} {t′ : List ℕ} → JudgedAs l t m j t′ → {n : ℕ} → n ≡ outcomeNumber (j .outcome)
+  pub judge-told : not (sizedBoth ns 7 id) ≡ false → {j : Judged} {t′ : List ℕ} → JudgedAs l t m j t′ → {n : ℕ} → n ≡ outcomeNumber (j .outcome)
       → {r : ℕ} {ns′ id′ : List ℕ} → Told n (j .closing) ns id r ns′ id′ → JudgedNumbers m l t ns id r t′ ns′ id′
   judge-told f {j} w {n} q {r} o =
-      let h = not-false (sizedBoth ns 6 id) f in
+      let h = not-false (sizedBoth ns 7 id) f in
       let a : r ≡ n = o .answer in
       record {
         answer = rw h (a ∙ q ∙ ap (λ (y : Judged). outcomeNumber (y .outcome)) (w .result));

@@ -41,8 +41,8 @@ close {x} {ns} {id} w = sized-first (sizedAll x ns id) (closeRefusals (unpacked 
 
 -- a whole message: 99, 1, 4, 2, 3, 6
 pub whole : {m : List ℕ} {l : Lent} {t ns id : List ℕ} {r : ℕ} {t′ ns′ id′ : List ℕ} → JudgedNumbers m l t ns id r t′ ns′ id′
-    → r ≡ sizedThen (sizedBoth ns 6 id) (wholeRefusals l t m)
-whole {m} {l} {t} {ns} {id} w = sized-first (sizedBoth ns 6 id) (wholeRefusals l t m) (w .answer) (judge.whole l t m)
+    → r ≡ sizedThen (sizedBoth ns 7 id) (wholeRefusals l t m)
+whole {m} {l} {t} {ns} {id} w = sized-first (sizedBoth ns 7 id) (wholeRefusals l t m) (w .answer) (judge.whole l t m)
 
 -- a reply: 99, 1, 2, 3, 6, 7, 8, 9
 pub reply : {m : List ℕ} {l : Lent} {d n t : ℕ} {out ns : List ℕ} {r : ℕ} {out′ ns′ : List ℕ} → RepliedAs m l d n t out ns r out′ ns′

@@ -109,11 +109,11 @@ module _ {x ns id : List ℕ} where
           identifier = rw a (o .identifier ∙ ap (λ (y : Closed). cond (eqb n 0) (y .closing .id) id) q);
         }
 
--- six numbers and an identifier
-pub close-sizes : (x ns id : List ℕ) → not (sizedAll x ns id) ≡ false → (length ns ≡ 6) × (length id ≡ 25)
+-- seven numbers and an identifier
+pub close-sizes : (x ns id : List ℕ) → not (sizedAll x ns id) ≡ false → (length ns ≡ 7) × (length id ≡ 25)
 close-sizes x ns id f =
     let h = both (eqb (length x) packedBytes) _ (not-false (sizedAll x ns id) f) .1 in
-    (eqb-true (length ns) 6 (both (eqb (length ns) 6) _ h .0), eqb-true (length id) 25 (both (eqb (length ns) 6) _ h .1))
+    (eqb-true (length ns) 7 (both (eqb (length ns) 7) _ h .0), eqb-true (length id) 25 (both (eqb (length ns) 7) _ h .1))
 
 -- bytes that are no session's are refused with 5
 module _ (x : List ℕ) (h : isPacked x ≡ false) where

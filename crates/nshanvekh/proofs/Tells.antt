@@ -21,8 +21,8 @@ module _ {n : ℕ} {ns id : List ℕ} where
       let q = ne-eqb n 0 h in
       record { answer = refl; numbers = rw q; identifier = rw q }
 
-  pub told : {k : Closing} → n ≡ 0 → length ns ≡ 6 → length id ≡ 25 → length (k .id) ≡ 25 → {id′ : List ℕ} → id′ ≡ withBytes id (k .id)
-      → Told n k ns id n (sets ns 0 (k .code ∷ k .accepted .count ∷ k .accepted .sum ∷ k .refused .count ∷ k .refused .sum ∷ k .zeros ∷ [])) id′
+  pub told : {k : Closing} → n ≡ 0 → length ns ≡ 7 → length id ≡ 25 → length (k .id) ≡ 25 → {id′ : List ℕ} → id′ ≡ withBytes id (k .id)
+      → Told n k ns id n (sets ns 0 (k .code ∷ k .accepted .count ∷ k .accepted .sum ∷ k .refused .count ∷ k .refused .sum ∷ k .zeros ∷ k .told ∷ [])) id′
   unfolding closingNumbers
   told {k} h l m o {id′} e =
       let q = eq-eqb n 0 h in

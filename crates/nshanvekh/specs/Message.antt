@@ -21,8 +21,8 @@ sizedBoth ns n id = sized ns n && sized id 25
 
 -- judging a whole message; codes written before an overflow stay in the table
 pub record JudgedNumbers (m : List ℕ) (l : Lent) (t ns id : List ℕ) (r : ℕ) (t′ ns′ id′ : List ℕ) : Type 0 where
-  pub answer : r ≡ cond (sizedBoth ns 6 id) (outcomeNumber (judgedOf l t m .outcome)) wrongSize
-  pub table : t′ ≡ cond (sizedBoth ns 6 id) (tableJudged l t m) t
+  pub answer : r ≡ cond (sizedBoth ns 7 id) (outcomeNumber (judgedOf l t m .outcome)) wrongSize
+  pub table : t′ ≡ cond (sizedBoth ns 7 id) (tableJudged l t m) t
   pub numbers : ns′ ≡ ifDone r (closingNumbers (judgedOf l t m .closing)) ns
   pub identifier : id′ ≡ ifDone r (judgedOf l t m .closing .id) id
 

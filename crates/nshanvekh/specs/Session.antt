@@ -36,9 +36,9 @@ pub record PieceAs (x p : List ℕ) (l : Lists) (t : List ℕ) (r : ℕ) (x′ t
   pub table : t′ ≡ cond (sized x packedBytes) (tableTaken (unpacked x) p l t) t
   pub holds : r ≡ 0 → unpacked x′ ≡ taken (unpacked x) p l t .next
 
--- the numbers of a closing: code, accepted count and sum, refused count and sum, zero watch
+-- the numbers of a closing: code, accepted count and sum, refused count and sum, zero watch, kind of message
 unfoldable pub closingNumbers : Closing → List ℕ
-closingNumbers k = k .code ∷ k .accepted .count ∷ k .accepted .sum ∷ k .refused .count ∷ k .refused .sum ∷ k .zeros ∷ []
+closingNumbers k = k .code ∷ k .accepted .count ∷ k .accepted .sum ∷ k .refused .count ∷ k .refused .sum ∷ k .zeros ∷ k .told ∷ []
 
 -- what a closing tells beside the call's number
 pub record Told (n : ℕ) (k : Closing) (ns id : List ℕ) (r : ℕ) (ns′ id′ : List ℕ) : Type 0 where
@@ -46,9 +46,9 @@ pub record Told (n : ℕ) (k : Closing) (ns id : List ℕ) (r : ℕ) (ns′ id�
   pub numbers : ns′ ≡ ifDone n (closingNumbers k) ns
   pub identifier : id′ ≡ ifDone n (k .id) id
 
--- a session, six numbers, an identifier
+-- a session, seven numbers, an identifier
 abbrev pub sizedAll : List ℕ → List ℕ → List ℕ → Bool
-sizedAll x ns id = sized x packedBytes && (sized ns 6 && sized id 25)
+sizedAll x ns id = sized x packedBytes && (sized ns 7 && sized id 25)
 
 -- closing: 0 and 6 leave a closed session, 5 and 99 the bytes that came
 pub record ClosedAs (x ns id : List ℕ) (r : ℕ) (x′ ns′ id′ : List ℕ) : Type 0 where

@@ -26,7 +26,7 @@ fn number_of(o: Outcome) -> u32
 
 // What closing gives is written where the call's number is 0.
 fn tell(n: u32, k: Closing, numbers: &mut [u64], id: &mut [u8]) -> u32
-    requires { ⌜ (length (now numbers) ≡ 6) × (length (now id) ≡ 25) ⌝ }
+    requires { ⌜ (length (now numbers) ≡ 7) × (length (now id) ≡ 25) ⌝ }
     ensures { λ r. ⌜ Told n k (now (numbers .entry)) (now (id .entry)) r (now (numbers .exit)) (now (id .exit)) ⌝ }
 {
     if n != 0 {
@@ -41,6 +41,7 @@ fn tell(n: u32, k: Closing, numbers: &mut [u64], id: &mut [u8]) -> u32
     numbers[3] = r.count;
     numbers[4] = r.sum;
     numbers[5] = k.zeros;
+    numbers[6] = k.told as u64;
     text::put(id, &own);
     n
 }
@@ -84,7 +85,7 @@ pub extern "C" fn nsh_close(session: &mut [u8], numbers: &mut [u64], id: &mut [u
     ensures { λ r. ⌜ ClosedAs (now (session .entry)) (now (numbers .entry)) (now (id .entry))
         r (now (session .exit)) (now (numbers .exit)) (now (id .exit)) ⌝ }
 {
-    if !((session.len() == packed::BYTES) & ((numbers.len() == 6) & (id.len() == 25))) {
+    if !((session.len() == packed::BYTES) & ((numbers.len() == 7) & (id.len() == 25))) {
         return 99;
     }
     let s = packed::unpack(session);
@@ -114,7 +115,7 @@ pub extern "C" fn nsh_judge(
     ensures { λ r. ⌜ JudgedNumbers (now (message .entry)) (lent day (now (banks .entry)) (now (known .entry))) (now (table .entry))
         (now (numbers .entry)) (now (id .entry)) r (now (table .exit)) (now (numbers .exit)) (now (id .exit)) ⌝ }
 {
-    if !((numbers.len() == 6) & (id.len() == 25)) {
+    if !((numbers.len() == 7) & (id.len() == 25)) {
         return 99;
     }
     let j = message::judge(day, banks, known, table, message);
@@ -123,12 +124,20 @@ pub extern "C" fn nsh_judge(
     tell(number_of(o), k, numbers, id)
 }
 
-// A single head or item, without its ending, at place k: 0, a refusal (1, 2, 3, 10), or the field and the kind of its fault.
+// A single head or item, without its ending, at place k of a message of a kind, 1 for BESZED and any other number for ATUTAL; a head tells its
+// kind itself: 0, a refusal (1, 2, 3, 10), or the field and the kind of its fault.
 #[no_mangle]
-pub extern "C" fn nsh_single(x: &[u8], day: u32, banks: &[u32], known: &[u8], place: u32) -> u32
-    ensures { λ r. ⌜ r ≡ singleNumber (singleAnswer (lent day (now (banks .entry)) (now (known .entry))) place (now (x .entry))) ⌝ }
+pub extern "C" fn nsh_single(
+    x: &[u8],
+    day: u32,
+    banks: &[u32],
+    known: &[u8],
+    place: u32,
+    kind: u32,
+) -> u32
+    ensures { λ r. ⌜ r ≡ singleNumber (singleAnswer (lent day (now (banks .entry)) (now (known .entry))) kind place (now (x .entry))) ⌝ }
 {
-    single::number(single::answer(x, place as u64, day, banks, known))
+    single::number(single::answer(x, place as u64, kind, day, banks, known))
 }
 
 // The reply's length is written, or the refusal told.

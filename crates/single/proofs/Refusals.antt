@@ -1,6 +1,6 @@
 -- The number of a refusal of a single record is that of the first row whose condition holds; where none does, the answer names a field or accepts.
 -- Assumes nothing.
-use mathlib.Core.Path.{_≡_, refl, sym, _∙_}
+use mathlib.Core.Path.{_≡_, refl, sym, ap, _∙_}
 use mathlib.Core.Bool.{Bool, true, false, cond, not, _||_}
 use mathlib.Core.List.{List, [], _∷_, _++_}
 use Prim.Native.Nat.{ℕ, _+_, _*_}
@@ -24,12 +24,16 @@ use Rattle.findings.specs.declared.Answer.{Answer}
 use Rattle.findings.specs.declared.Answer.the-variants.{Refused}
 use Rattle.findings.specs.Codes.{Rule}
 use Rattle.findings.specs.Naming.{namedElse, firstNamed}
-use Rattle.heads.specs.Heads.{headRulesOf, headRules}
-use Rattle.atutal.specs.Codes.{rulesOf, itemRules}
+use Rattle.findings.proofs.Naming.{in-parts}
+use Rattle.heads.specs.declared.HeadFindings.{HeadFindings}
+use Rattle.heads.specs.Heads.{headFields, headRulesOf}
+use Rattle.items.specs.declared.item.ItemFindings.{ItemFindings}
+use Rattle.items.specs.Items.{itemFields, rulesOf}
 use Rattle.single.specs.Single.{headTexts, itemTexts, headAnswer, itemAnswer, singleAnswer}
 use Rattle.findings.specs.Answers.{fieldNumber, answerNumber}
 use Rattle.single.specs.Numbers.{singleNumber}
 use Rattle.single.specs.Refusals.{refusedNumber, singleRefusals}
+use Rattle.single.proofs.Fields.{head-is, item-is}
 
 -- each rule names a field, whatever the kind of fault
 data Naming : List Rule → Type 0 where
@@ -48,9 +52,9 @@ no-refusal none = refl
 no-refusal (one {r} {rs} h w) = else-none (r .found) (r .named) (firstNamed rs) h (no-refusal w)
 
 -- the rules of a head, and those of an item
-head-names : (e : ℕ) (isListed : ℕ → Bool) (known r : List ℕ) → Naming (headTexts r ++ headRules e isListed known r)
-unfolding headTexts headRules headRulesOf
-head-names e isListed known r =
+head-names : (r : List ℕ) (f : HeadFindings) → Naming (headTexts r ++ headRulesOf f)
+unfolding headTexts headRulesOf
+head-names r f =
     one (λ k. refl)
     (one (λ k. refl)
     (one (λ k. refl)
@@ -66,9 +70,9 @@ head-names e isListed known r =
     (one (λ k. refl)
     (one (λ k. refl) none)))))))))))))
 
-item-names : (isListed : ℕ → Bool) (k : ℕ) (r : List ℕ) → Naming (itemTexts r ++ itemRules isListed k r)
-unfolding itemTexts itemRules rulesOf
-item-names isListed k r =
+item-names : (r : List ℕ) (f : ItemFindings) → Naming (itemTexts r ++ rulesOf f)
+unfolding itemTexts rulesOf
+item-names r f =
     one (λ k. refl)
     (one (λ k. refl)
     (one (λ k. refl)
@@ -80,7 +84,19 @@ item-names isListed k r =
     (one (λ k. refl)
     (one (λ k. refl)
     (one (λ k. refl)
-    (one (λ k. refl) none)))))))))))
+    (one (λ k. refl)
+    (one (λ k. refl) none))))))))))))
+
+-- so the answer on a head is no refusal, nor that on an item
+head-told : (e : ℕ) (isListed : ℕ → Bool) (known r : List ℕ) → refusedNumber (headAnswer e isListed known r) ≡ 0
+head-told e isListed known r =
+    let f = headFields e isListed known r in
+    ap refusedNumber (sym (head-is e isListed known r) ∙ in-parts (headTexts r) (headRulesOf f)) ∙ no-refusal (head-names r f)
+
+item-told : (kind e : ℕ) (isListed : ℕ → Bool) (k : ℕ) (r : List ℕ) → refusedNumber (itemAnswer kind e isListed k r) ≡ 0
+item-told kind e isListed k r =
+    let f = itemFields kind e isListed k r in
+    ap refusedNumber (sym (item-is kind e isListed k r) ∙ in-parts (itemTexts r) (rulesOf f)) ∙ no-refusal (item-names r f)
 
 -- the number of a refusal for C is that of the refusal
 for-c : (a : Answer) → (refusedNumber a ≡ 0 → ⊥) → singleNumber a ≡ refusedNumber a
@@ -91,23 +107,22 @@ for-c a f = go (eqb (fieldNumber a) 0) refl f
     go true q f = let z = eqb-true (fieldNumber a) 0 q in omega arith
     go false q f = absurd (f refl)
 
-module _ (l : Lent) (k : ℕ) (r : List ℕ) where
+module _ (l : Lent) (kind k : ℕ) (r : List ℕ) where
   abbrev listed : ℕ → Bool
   listed = foundIn (l .lists .banks)
 
   -- the answer by the record's length, a head's or an item's
   abbrev told : Bool → Bool → Answer
-  told h i = cond h (headAnswer (l .day) listed (l .lists .known) r) (cond i (itemAnswer listed k r) (Refused Malformed))
+  told h i = cond h (headAnswer (l .day) listed (l .lists .known) r) (cond i (itemAnswer kind (l .day) listed k r) (Refused Malformed))
 
   -- 10 where it is neither
   by-length : (h i : Bool) → ByRows refusedNumber (told h i) ((10, not (h || i)) ∷ [])
-  unfolding headAnswer itemAnswer
-  by-length true i = record { is = no-refusal (head-names (l .day) listed (l .lists .known) r) }
-  by-length false true = record { is = no-refusal (item-names listed k r) }
+  by-length true i = record { is = head-told (l .day) listed (l .lists .known) r }
+  by-length false true = record { is = item-told kind (l .day) listed k r }
   by-length false false = record { is = refl }
 
   -- a single record: 1, 2, 3, 10
-  pub single : refusedNumber (singleAnswer l k r) ≡ firstGiven (singleRefusals l r)
+  pub single : refusedNumber (singleAnswer l kind k r) ≡ firstGiven (singleRefusals l r)
   unfolding singleAnswer
   single =
       asked (isDate (l .day)) (Refused NotADay)
@@ -115,8 +130,8 @@ module _ (l : Lent) (k : ℕ) (r : List ℕ) where
 
   -- where no row's condition holds, the answer is that on a head or an item, by its length
   pub unrefused : firstGiven (singleRefusals l r) ≡ 0
-      → singleAnswer l k r
-      ≡ cond (eqb (length r) (lengths .head)) (headAnswer (l .day) listed (l .lists .known) r) (itemAnswer listed k r)
+      → singleAnswer l kind k r
+      ≡ cond (eqb (length r) (lengths .head)) (headAnswer (l .day) listed (l .lists .known) r) (itemAnswer kind (l .day) listed k r)
   unfolding singleAnswer
   unrefused = go (isDate (l .day)) (eqb (length r) (lengths .head)) (eqb (length r) (lengths .item))
     where
@@ -133,5 +148,5 @@ module _ (l : Lent) (k : ℕ) (r : List ℕ) where
       go false h i e = absurd (omega arith)
 
   -- a refusal's number for C
-  pub told-number : (firstGiven (singleRefusals l r) ≡ 0 → ⊥) → singleNumber (singleAnswer l k r) ≡ firstGiven (singleRefusals l r)
-  told-number f = for-c (singleAnswer l k r) (λ e. f (sym single ∙ e)) ∙ single
+  pub told-number : (firstGiven (singleRefusals l r) ≡ 0 → ⊥) → singleNumber (singleAnswer l kind k r) ≡ firstGiven (singleRefusals l r)
+  told-number f = for-c (singleAnswer l kind k r) (λ e. f (sym single ∙ e)) ∙ single

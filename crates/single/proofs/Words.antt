@@ -69,6 +69,7 @@ small (answer.Amount k) = kind-small k
 small (answer.CustomerId k) = kind-small k
 small (answer.Address k) = kind-small k
 small (answer.Owner k) = kind-small k
+small (answer.DueDate k) = kind-small k
 
 -- the field of any answer; none where it names none
 pub field-word : (a : Answer) → getD fieldWords (singleNumber a / 100) [] ≡ answerField a
@@ -98,6 +99,7 @@ names-kind field.Amount k = refl
 names-kind field.CustomerId k = refl
 names-kind field.Address k = refl
 names-kind field.Owner k = refl
+names-kind field.DueDate k = refl
 
 -- the kind of an answer that names a field
 pub kind-word : (f : Field) (k : Kind) → getD kindWords (singleNumber (nameOf f k) % 100) [] ≡ kindWord k

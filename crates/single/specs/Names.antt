@@ -26,3 +26,4 @@ nameOf field.Amount = named.Amount
 nameOf field.CustomerId = named.CustomerId
 nameOf field.Address = named.Address
 nameOf field.Owner = named.Owner
+nameOf field.DueDate = named.DueDate

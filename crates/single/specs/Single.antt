@@ -1,4 +1,4 @@
--- The answer on a single head or item (01, Calls and their answers).
+-- The answer on a single head or item of either kind of message (01, Calls and their answers; 02, #101).
 -- Assumes nothing.
 use Prim.Native.Nat.{ℕ}
 use mathlib.Core.Bool.{Bool, cond}
@@ -17,8 +17,7 @@ use Rattle.findings.specs.declared.Answer.the-variants as named
 use Rattle.fields.specs.Fields.{letterFound}
 use Rattle.findings.specs.Codes.{Ü, Rule, rule, always}
 use Rattle.findings.specs.Naming.{firstNamed}
-use Rattle.atutal.specs.Codes.{itemRules}
-use Rattle.heads.specs.Heads.{headRules}
+use Rattle.kinds.specs.Codes.{headRules, itemRules}
 
 -- the letters of a text field; the code of a bad one is 36 wherever it stands
 abbrev pub letters : (Kind → Answer) → List ℕ → Rule
@@ -37,20 +36,20 @@ itemTexts r =
     ∷ letters named.Remark (field 180 249 r)
     ∷ []
 
--- a bad letter comes first, then the fields in order
+-- a bad letter comes first, then the fields in order; a head tells its kind itself, an item's comes with it
 unfoldable pub headAnswer : ℕ → (ℕ → Bool) → List ℕ → List ℕ → Answer
 headAnswer e isListed known r = firstNamed (headTexts r ++ headRules e isListed known r)
 
-unfoldable pub itemAnswer : (ℕ → Bool) → ℕ → List ℕ → Answer
-itemAnswer isListed k r = firstNamed (itemTexts r ++ itemRules isListed k r)
+unfoldable pub itemAnswer : ℕ → ℕ → (ℕ → Bool) → ℕ → List ℕ → Answer
+itemAnswer kind e isListed k r = firstNamed (itemTexts r ++ itemRules kind e isListed k r)
 
--- the answer: refusals 1, 2, 3 and 10 in this order; its length tells a head from an item
-unfoldable pub singleAnswer : Lent → ℕ → List ℕ → Answer
-singleAnswer l k r =
+-- the answer, with the kind and the place of an item: refusals 1, 2, 3 and 10 in this order; its length tells a head from an item
+unfoldable pub singleAnswer : Lent → ℕ → ℕ → List ℕ → Answer
+singleAnswer l kind k r =
     cond (isDate (l .day))
     (by (listRefused (l .lists))
     (cond (eqb (length r) (lengths .head))
     (headAnswer (l .day) (foundIn (l .lists .banks)) (l .lists .known) r)
-    (cond (eqb (length r) (lengths .item)) (itemAnswer (foundIn (l .lists .banks)) k r) (named.Refused Malformed)))
+    (cond (eqb (length r) (lengths .item)) (itemAnswer kind (l .day) (foundIn (l .lists .banks)) k r) (named.Refused Malformed)))
     named.Refused)
     (named.Refused NotADay)

@@ -8,17 +8,17 @@ ghost use Rattle.frame.specs.Records.{lengths};
 ghost use Rattle.findings.specs.Findings.{kindNumber};
 ghost use Rattle.fields.specs.Fields.{letterFound};
 ghost use Rattle.findings.specs.Naming.{namedElse, firstNamed, namedOr};
-ghost use Rattle.atutal.specs.Codes.{rulesOf};
 ghost use Rattle.heads.specs.Heads.{headRulesOf};
+ghost use Rattle.items.specs.Items.{rulesOf};
 ghost use Rattle.single.specs.Names.{nameOf};
 ghost use Rattle.single.specs.Single.{headTexts, itemTexts, headAnswer, itemAnswer, singleAnswer};
 ghost use Rattle.single.specs.Numbers.{singleNumber};
-use atutal::item::ItemFindings;
 use findings::Answer;
 use findings::Finding;
 use findings::Kind;
 use findings::found;
 use heads::HeadFindings;
+use items::item::ItemFindings;
 use lent::Outcome;
 use lent::Refusal;
 
@@ -42,6 +42,7 @@ enum Field {
     CustomerId,
     Address,
     Owner,
+    DueDate,
 }
 
 // The answer that names a field and the kind of its fault.
@@ -67,6 +68,7 @@ fn named(field: Field, k: Kind) -> Answer
         Field::CustomerId => Answer::CustomerId(k),
         Field::Address => Answer::Address(k),
         Field::Owner => Answer::Owner(k),
+        Field::DueDate => Answer::DueDate(k),
     }
 }
 
@@ -116,6 +118,7 @@ fn item_named(f: ItemFindings) -> Answer
 {
     let mark = f.mark;
     let number = f.number;
+    let due = f.due;
     let m = f.amount;
     let amount = m.found;
     let bank = f.bank;
@@ -127,6 +130,7 @@ fn item_named(f: ItemFindings) -> Answer
     let a = named_else(account, Field::Account, a);
     let a = named_else(bank, Field::Bank, a);
     let a = named_else(amount, Field::Amount, a);
+    let a = named_else(due, Field::DueDate, a);
     let a = named_else(number, Field::ItemNumber, a);
     named_else(mark, Field::Type, a)
 }
@@ -167,17 +171,19 @@ fn head_alone(r: &[u8], e: u32, banks: &[u32], known: &[u8]) -> Answer
     head_letters(r, head_named(heads::all_findings(r, e, banks, known)))
 }
 
-// The answer on a whole item at place k: a bad letter first, then the fields in order.
-fn item_alone(r: &[u8], k: u64, banks: &[u32]) -> Answer
+// The answer on a whole item at place k of a message of a kind: a bad letter first, then the fields in order.
+fn item_alone(r: &[u8], k: u64, kind: u32, e: u32, banks: &[u32]) -> Answer
     requires { ⌜ length (now r) ≡ lengths .item ⌝ }
-    ensures { λ a. ⌜ a ≡ itemAnswer (foundIn (now (banks .entry))) k (now (r .entry)) ⌝ }
+    ensures { λ a. ⌜ a ≡ itemAnswer kind e (foundIn (now (banks .entry))) k (now (r .entry)) ⌝ }
 {
-    item_letters(r, item_named(atutal::item::all_findings(r, k, banks)))
+    let f = items::item::all_findings(r, k, kind, e, banks);
+    item_letters(r, item_named(f))
 }
 
-// The answer on a single head or item, without its ending: refusals 1, 2, 3 and 10 come first, in this order.
-pub fn answer(r: &[u8], k: u64, e: u32, banks: &[u32], known: &[u8]) -> Answer
-    ensures { λ a. ⌜ a ≡ singleAnswer (lent e (now (banks .entry)) (now (known .entry))) k (now (r .entry)) ⌝ }
+// The answer on a single head or item, without its ending: refusals 1, 2, 3 and 10 come first, in this order. An item is at place k of a
+// message of a kind, 1 for BESZED and any other number for ATUTAL; a head tells its kind itself (02, #101).
+pub fn answer(r: &[u8], k: u64, kind: u32, e: u32, banks: &[u32], known: &[u8]) -> Answer
+    ensures { λ a. ⌜ a ≡ singleAnswer (lent e (now (banks .entry)) (now (known .entry))) kind k (now (r .entry)) ⌝ }
 {
     if !calendar::is_date(e) {
         return Answer::Refused(Refusal::NotADay);
@@ -189,7 +195,7 @@ pub fn answer(r: &[u8], k: u64, e: u32, banks: &[u32], known: &[u8]) -> Answer
                 return head_alone(r, e, banks, known);
             }
             if r.len() == frame::ITEM {
-                return item_alone(r, k, banks);
+                return item_alone(r, k, kind, e, banks);
             }
             Answer::Refused(Refusal::Malformed)
         }
@@ -198,7 +204,7 @@ pub fn answer(r: &[u8], k: u64, e: u32, banks: &[u32], known: &[u8]) -> Answer
 
 // A field's number and its kind's.
 fn field_and_kind(field: u32, k: Kind) -> u32
-    requires { ⌜ field ≤ 18 ⌝ }
+    requires { ⌜ field ≤ 19 ⌝ }
     ensures { λ r. ⌜ r ≡ field * 100 + kindNumber k ⌝ }
 {
     field * 100 + findings::kind_number(k) as u32
@@ -229,5 +235,6 @@ pub fn number(a: Answer) -> u32
         Answer::CustomerId(k) => field_and_kind(16, k),
         Answer::Address(k) => field_and_kind(17, k),
         Answer::Owner(k) => field_and_kind(18, k),
+        Answer::DueDate(k) => field_and_kind(19, k),
     }
 }

@@ -1,4 +1,4 @@
--- What is printed is short: four lines with numbers of at most twenty digits each, or the line of a refusal.
+-- What is printed is short: five lines with numbers of at most twenty digits each, or the line of a refusal.
 -- Assumes nothing.
 use mathlib.Core.Bool.{Bool, true, false, cond}
 use mathlib.Core.List.{List}
@@ -16,11 +16,12 @@ use Rattle.judge.specs.declared.Taken.{Taken}
 use Rattle.judge.specs.Session.{closedOf}
 use Rattle.lines.specs.Slip.{codeWidth, slipOf, refusalLine}
 use Rattle.lines.proofs.Places.{few}
+use Rattle.lines.proofs.Long.{slip-long}
 use Rattle.slips.specs.Message.{closedText, answerOf}
 
 -- the most bytes that are printed
 abbrev pub mostText : ℕ
-mostText = 139
+mostText = 151
 
 -- a code's digits
 narrow : (c : ℕ) → codeWidth c ≤ 3
@@ -31,7 +32,6 @@ narrow c = go (ltb c 100)
     go false = omega arith
 
 slip-short : (k : Closing) → length (slipOf k) ≤ mostText
-unfolding slipOf
 slip-short k =
     let w = narrow (k .code) in
     let a = few (k .accepted .count) in
@@ -39,7 +39,7 @@ slip-short k =
     let c = few (k .refused .count) in
     let d = few (k .refused .sum) in
     let e = few (k .zeros) in
-    simp (length-append, figures-length) (omega arith)
+    omega (arith, slip-long k)
 
 pub refusal-short : (r : Refusal) → length (refusalLine r) ≤ mostText
 refusal-short r = let w = few (refusalNumber r) in simp (length-append, figures-length) (omega arith)

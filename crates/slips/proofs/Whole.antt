@@ -17,12 +17,12 @@ use Rattle.lent.specs.Lent.{Lists, Lent, listRefused}
 use Rattle.lists.specs.Banks.{isBankList}
 use Rattle.lists.specs.Known.{isKnownList}
 use Rattle.frame.specs.Records.{ended}
-use Rattle.frame.specs.Verdict.{findings, verdict}
+use Rattle.frame.specs.Verdict.{findings, toldBy, verdict}
 use Rattle.frame.specs.Machine.{joined}
 use Rattle.lent.specs.declared.Refusal.{Refusal}
 use Rattle.lent.specs.declared.Refusal.the-variants as refusal
-use Rattle.atutal.specs.Codes.{rules}
-use Rattle.atutal.proofs.Instance.{sound, empty-message}
+use Rattle.kinds.specs.Codes.{rules}
+use Rattle.kinds.proofs.Instance.{sound, empty-message}
 use Rattle.lent.specs.declared.Outcome.the-variants.{Done, Refused}
 use Rattle.judge.specs.declared.Session.{Session}
 use Rattle.judge.specs.Session.{most, inRange, stateOf, closedSession, give, openRefused, opened, pieceRefused, lentTo, taken, tableTaken}
@@ -131,11 +131,20 @@ any-pieces day banks known room table ps =
     let g = lists-pass (l .lists) (banks-list banks room v) (both (leb (length known) longest) (isKnownList known) w .1) in
     by-pieces l table (record { day = day-date day z; lists = g }) ps)
 
--- 01's example: for an empty message, day 20200310 and empty lists, in a table of any length
+-- 01's example, with the line of the kind (02, #101): for an empty message, day 20200310 and empty lists, in a table of any length
 pub paper : (room : ℕ) (table : List ℕ) → length table ≤ most
     → printed (ascii "20200310") [] [] room table []
-    ≡ ascii "MESSAGE 26" ++ lineEnd ++ ascii "ACCEPTED 0 0" ++ lineEnd ++ ascii "REFUSED 0 0" ++ lineEnd ++ ascii "ZERO 0" ++ lineEnd
+    ≡ ascii "KIND ATUTAL"
+    ++ lineEnd
+    ++ ascii "MESSAGE 26"
+    ++ lineEnd
+    ++ ascii "ACCEPTED 0 0"
+    ++ lineEnd
+    ++ ascii "REFUSED 0 0"
+    ++ lineEnd
+    ++ ascii "ZERO 0"
+    ++ lineEnd
 unfolding printed givenBy isBanks dayOf dateField leap isDate numberOf judgedOf wholeRefused openRefused
-    listRefused verdict findings ended slipOf figures places
+    listRefused verdict toldBy findings ended slipOf figures places
 paper room table h =
     rw (le-leb 0 room (omega arith), le-leb (length table) most h, le-ltb (length table) 0 (omega arith), empty-message (lentBy 20200310 [] []))

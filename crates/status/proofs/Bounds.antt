@@ -17,13 +17,13 @@ use Rattle.frame.specs.declared.Found.{Found}
 use Rattle.frame.specs.declared.Tally.{Tally}
 use Rattle.frame.specs.declared.Closing.{Closing}
 use Rattle.frame.specs.Records.{lengths, noId, headOf, itemsOf}
-use Rattle.frame.specs.Verdict.{Rules, blank, overflow, given, counted, findings, foundIn, messageCode, identifier, overflows, verdict, tableAfter}
+use Rattle.frame.specs.Verdict.{Rules, blank, overflow, given, counted, findings, foundIn, messageCode, identifier, toldBy, overflows, verdict, tableAfter}
 use Rattle.frame.specs.Machine.{fresh, run, numbers, closing}
 use Rattle.frame.proofs.Whole.{uncut}
 use Rattle.frame.proofs.Counting.{findings-length}
 use Rattle.frame.proofs.Faults.{all-items}
-use Rattle.atutal.specs.Codes.{rules}
-use Rattle.atutal.proofs.Instance.{sound}
+use Rattle.kinds.specs.Codes.{rules}
+use Rattle.kinds.proofs.Instance.{sound}
 use Rattle.judge.specs.Session.{most}
 use Rattle.judge.specs.Inner.{Ready}
 use Rattle.judge.proofs.Ranges.{kept-run, kept-fresh}
@@ -49,8 +49,8 @@ pub record Fits (k : Closing) : Type 0 where
   pub accepted : k .accepted .sum < 10 ^ 16
   pub refused : k .refused .sum < 10 ^ 16
 
-fits-blank : (c : ℕ) (id : List ℕ) → c < 100 → Fits (blank c id)
-fits-blank c id h = record { code = h; counts = omega arith; accepted = lit< tt; refused = lit< tt }
+fits-blank : (told c : ℕ) (id : List ℕ) → c < 100 → Fits (blank told c id)
+fits-blank told c id h = record { code = h; counts = omega arith; accepted = lit< tt; refused = lit< tt }
 
 one-of : (b : Bool) (k l : Closing) → Fits k → Fits l → Fits (cond b k l)
 one-of true k l f g = f
@@ -72,14 +72,14 @@ fits-closing c t v = go (eqb (c .phase) 4)
   where
     go : (b : Bool)
         → Fits (cond b overflow (given (cond (eqb (c .phase) 2)
-        (cond (c .letter) (blank 36 (c .id)) (cond (eqb (c .code) 0) (numbers c) (blank (c .code) (c .id))))
-        (blank 26 (c .id)))) .closing)
-    go true = fits-blank 0 noId (lit< tt)
+        (cond (c .letter) (blank (c .told) 36 (c .id)) (cond (eqb (c .code) 0) (numbers c) (blank (c .told) (c .code) (c .id))))
+        (blank (c .told) 26 (c .id)))) .closing)
+    go true = fits-blank 0 0 noId (lit< tt)
     go false =
         one-of (eqb (c .phase) 2) _ _
-        (one-of (c .letter) _ _ (fits-blank 36 (c .id) (lit< tt))
-        (one-of (eqb (c .code) 0) _ _ (fits-numbers c t v) (fits-blank (c .code) (c .id) (omega (arith, v .code)))))
-        (fits-blank 26 (c .id) (lit< tt))
+        (one-of (c .letter) _ _ (fits-blank (c .told) 36 (c .id) (lit< tt))
+        (one-of (eqb (c .code) 0) _ _ (fits-numbers c t v) (fits-blank (c .told) (c .code) (c .id) (omega (arith, v .code)))))
+        (fits-blank (c .told) 26 (c .id) (lit< tt))
 
 module _ (l : Lent) where
   codes-in : (told k : ℕ) (rs : List (List ℕ)) → Codes (map (λ f. f .code) (findings (rules l) told k rs))
@@ -123,7 +123,7 @@ module _ (l : Lent) (t m : List ℕ) where
   counted-few = go (overflows R t m) refl (eqb (messageCode R m) 0)
     where
       w : Bool → Bool → Closing
-      w o z = cond o overflow (given (cond z (counted fs (identifier R m)) (blank (messageCode R m) (identifier R m)))) .closing
+      w o z = cond o overflow (given (cond z (counted (toldBy R m) fs (identifier R m)) (blank (toldBy R m) (messageCode R m) (identifier R m)))) .closing
 
       go : (o : Bool) → overflows R t m ≡ o → (z : Bool)
           → (w o z .accepted .count + w o z .refused .count ≤ length fs) × (w o z .accepted .count + w o z .refused .count ≤ length t)
@@ -155,7 +155,7 @@ module _ (l : Lent) (t m : List ℕ) where
   module _ (o : overflows R t m ≡ false) where
     -- the numbers where the table had a byte for each item
     abbrev w : Bool → Closing
-    w z = cond z (counted fs (identifier R m)) (blank (messageCode R m) (identifier R m))
+    w z = cond z (counted (toldBy R m) fs (identifier R m)) (blank (toldBy R m) (messageCode R m) (identifier R m))
 
     pub verdict-is : verdict R t m .closing ≡ w (eqb (messageCode R m) 0)
     unfolding verdict

@@ -15,7 +15,7 @@ use Rattle.lent.specs.declared.Refusal.the-variants.{NotADay, Overflow, Address
 use Rattle.lent.specs.declared.Outcome.{Outcome}
 use Rattle.lent.specs.declared.Outcome.the-variants as outcome
 use Rattle.frame.specs.Verdict.{overflows}
-use Rattle.atutal.specs.Codes.{rules}
+use Rattle.kinds.specs.Codes.{rules}
 use Rattle.status.specs.declared.reply.Particulars.{Particulars}
 use Rattle.status.specs.declared.reply.Answer.{Answer}
 use Rattle.status.specs.declared.reply.Answer.the-variants.{Written, Refused}

@@ -14,7 +14,7 @@ use Rattle.lent.specs.declared.Refusal.the-variants as refusal
 use Rattle.lent.specs.declared.Outcome.{Outcome}
 use Rattle.lent.specs.declared.Outcome.the-variants.{Done, Refused}
 use Rattle.frame.specs.Verdict.{Rules, overflows, verdict, tableAfter}
-use Rattle.atutal.specs.Codes.{rules}
+use Rattle.kinds.specs.Codes.{rules}
 use Rattle.judge.specs.declared.Judged.{Judged}
 use Rattle.judge.specs.Session.{most, outcomeOf, openRefused, wholeRefused, judgedOf, tableJudged}
 use Rattle.status.specs.declared.reply.Particulars.{Particulars}

@@ -15,7 +15,7 @@ use Rattle.lent.specs.Lent.{Lent}
 use Rattle.frame.specs.Records.{lengths, idOf, itemsOf}
 use Rattle.frame.specs.Verdict.{overflows, tableAfter}
 use Rattle.frame.proofs.Cut.{each-item}
-use Rattle.atutal.specs.Codes.{rules}
+use Rattle.kinds.specs.Codes.{rules}
 use Rattle.status.specs.declared.reply.Particulars.{Particulars}
 use Rattle.status.specs.Records.{references, written}
 use Rattle.status.specs.Reply.{hasAddress, room, referred, said, reply}

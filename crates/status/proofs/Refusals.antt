@@ -12,7 +12,7 @@ use Rattle.lent.specs.Lent.{Lent}
 use Rattle.lent.specs.declared.Refusal.the-variants.{NotADay, Overflow, Address, Particulars as WrongParticulars, Room}
 use Rattle.lent.proofs.Refusals.{after-lists}
 use Rattle.frame.specs.Verdict.{overflows}
-use Rattle.atutal.specs.Codes.{rules}
+use Rattle.kinds.specs.Codes.{rules}
 use Rattle.status.specs.declared.reply.Particulars.{Particulars}
 use Rattle.status.specs.declared.reply.Answer.the-variants.{Written, Refused}
 use Rattle.status.specs.Reply.{replyNumber, hasAddress, areParticulars, room, reply, answer}

@@ -12,7 +12,7 @@ use Rattle.base.specs.Bytes.{field}
 use Rattle.lent.specs.Lent.{Lent}
 use Rattle.frame.specs.Verdict.{Rules, Verdict, foundIn, overflows, verdict, tableAfter}
 use Rattle.frame.specs.Machine.{joined}
-use Rattle.atutal.specs.Codes.{rules}
+use Rattle.kinds.specs.Codes.{rules}
 use Rattle.judge.specs.declared.Closed.{Closed}
 use Rattle.judge.specs.Session.{most, opened, closedOf}
 use Rattle.judge.specs.Feeding.{fed}

@@ -6,9 +6,10 @@ use Rattle.base.specs.Bytes.{ascii}
 use Rattle.digits.specs.Digits.{figures}
 use Rattle.frame.specs.Records.{ending, ended, isFoot, itemsIn, restAfter}
 use Rattle.frame.specs.Verdict.{findings, messageCode, verdict}
-use Rattle.heads.specs.Heads.{headFields, headRulesOf, headRules, headFound}
-use Rattle.atutal.specs.Codes.{itemFound}
-use Rattle.atutal.specs.Examples.{oneItem, given}
+use Rattle.atutal.specs.Tables as atutal
+use Rattle.kinds.specs.Kinds.{kindOf, tables}
+use Rattle.kinds.specs.Codes.{headRules, headLetter, headCode, itemRules, itemFound}
+use Rattle.kinds.specs.Examples.{oneItem, given}
 use Rattle.status.specs.declared.reply.Particulars.{Particulars}
 use Rattle.status.specs.Records.{headRecord, references, footRecord, written}
 use Rattle.status.specs.Reply.{room, referred, reply}
@@ -22,5 +23,5 @@ pub example-reply :
     ≡ ascii "01STATUS0A12345676T00120200301000120200310000708300042" ++ ending
     ++ (ascii "0300000000000000000000000000000000000000000000" ++ ending)
 unfolding reply written headRecord references footRecord figures referred room verdict messageCode findings itemsIn restAfter ended isFoot
-    headFound headRules headRulesOf headFields itemFound
+    headLetter headCode headRules itemFound itemRules kindOf tables atutal.headRules atutal.itemRules
 example-reply = refl

@@ -10,7 +10,7 @@ use Rattle.calendar.specs.Calendar.{isDate}
 use Rattle.lent.specs.Lent.{Lent}
 use Rattle.lent.specs.Refusals.{listRefusals}
 use Rattle.frame.specs.Verdict.{overflows}
-use Rattle.atutal.specs.Codes.{rules}
+use Rattle.kinds.specs.Codes.{rules}
 use Rattle.status.specs.declared.reply.Particulars.{Particulars}
 use Rattle.status.specs.Reply.{hasAddress, areParticulars, room, reply}
 

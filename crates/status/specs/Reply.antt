@@ -11,7 +11,7 @@ use Rattle.calendar.specs.Calendar.{isDate}
 use Rattle.lent.specs.Lent.{Lent, refusalNumber, listRefused, by}
 use Rattle.frame.specs.Records.{lengths, itemsOf}
 use Rattle.frame.specs.Verdict.{Verdict, foundIn, overflows, verdict}
-use Rattle.atutal.specs.Codes.{rules}
+use Rattle.kinds.specs.Codes.{rules}
 use Rattle.lent.specs.declared.Refusal.the-variants.{NotADay, Overflow, Address, Particulars as WrongParticulars, Room}
 use Rattle.frame.specs.declared.Closing.{Closing}
 use Rattle.judge.specs.Session.{most}

@@ -89,7 +89,7 @@ fn numbers_of(command: u8, z: u32) -> usize
     if command == b'r' {
         return size(10, z / 10);
     }
-    size(6, z / 10)
+    size(7, z / 10)
 }
 
 // The call of a letter, with a table of the length that the line begins with, and buffers of the sizes that are given.

@@ -11,7 +11,7 @@ use script::field;
 // What a judging gave: its number, and what stands in numbers, identifier and table.
 struct Left {
     number: u32,
-    numbers: [u64; 6],
+    numbers: [u64; 7],
     id: [u8; 25],
     table: [u8; 25],
 }
@@ -38,7 +38,7 @@ fn in_two(
 ) -> Left {
     let mut session = [0u8; packed::BYTES];
     let mut table = [255u8; 25];
-    let mut numbers = [255u64; 6];
+    let mut numbers = [255u64; 7];
     let mut id = [255u8; 25];
     let lengths = two(cut);
     let end = least(length, 25);
@@ -62,9 +62,9 @@ fn in_two(
 }
 
 // 1 where the numbers are the same.
-fn same_numbers(a: [u64; 6], b: [u64; 6]) -> u64 {
+fn same_numbers(a: [u64; 7], b: [u64; 7]) -> u64 {
     let mut i = 0;
-    while i < 6 {
+    while i < 7 {
         if a[i] != b[i] {
             return 0;
         }
@@ -104,7 +104,7 @@ fn agree(first: Left, message: &[u8], length: usize, day: u32, banks: &[u32], kn
 }
 
 // What a judging gave is shown, of the table so many bytes.
-fn put_left(n: u32, numbers: [u64; 6], id: [u8; 25], table: [u8; 25], length: usize) {
+fn put_left(n: u32, numbers: [u64; 7], id: [u8; 25], table: [u8; 25], length: usize) {
     let table = &table[..];
     let end = least(length, table.len());
     put_lent(n, &numbers, &id, &table[0..end]);

@@ -61,7 +61,11 @@ fn tried(
         b'w' => replied(text, r, g, banks, known, out, session),
         b'r' => called(command, text, r, g, banks, known, session),
         b'a' => cuts::each_cut(text, r, g.day, banks, known),
-        b's' => put_next(nshanvekh::nsh_single(text, g.day, banks, known, field(r, 0, 10)) as u64),
+        b's' => {
+            let place = field(r, 0, 10);
+            let kind = field(r, 11, 21);
+            put_next(nshanvekh::nsh_single(text, g.day, banks, known, place, kind) as u64)
+        }
         b'f' => slip::print(text, r),
         _ => stepped(command, text, r, g, banks, known, session),
     }

@@ -36,9 +36,11 @@ const FULL: usize = 61440;
 // It has room for one record more: fewer than 2,000 bytes, where each byte of an item is shown by four.
 const ROOM: usize = FULL + 4096;
 
-// A walk: how much of the output is filled, what the items so far give, and whether it goes on.
+// A walk: how much of the output is filled, the kind that the head told, ATUTAL before it, what the items so far give, and whether it
+// goes on.
 struct Walk {
     filled: usize,
+    kind: u32,
     count: u64,
     sum: u64,
     on: bool,
@@ -65,6 +67,7 @@ fn room(out: &[u8], filled: usize) -> usize {
 fn ended(w: Walk, filled: usize) -> Walk {
     Walk {
         filled,
+        kind: w.kind,
         count: w.count,
         sum: w.sum,
         on: false,
@@ -83,18 +86,20 @@ fn item(
     banks: &[u32],
     known: &[u8],
 ) -> Walk {
-    let f = atutal::item::found_in(r, k as u64, banks);
-    let answer = single::number(single::answer(r, k as u64, day, banks, known)) as usize;
-    let filled = records::put_item(out, w.filled, r, k, start, only, answer, f);
+    let kind = w.kind;
+    let f = items::item::found_in(r, k as u64, kind, day, banks);
+    let answer = single::number(single::answer(r, k as u64, kind, day, banks, known)) as usize;
+    let filled = records::put_item(out, w.filled, r, k, kind, start, only, answer, f);
     Walk {
         filled: room(out, filled),
+        kind,
         count: k as u64,
         sum: std::num::wrapping_add_u64(w.sum, f.amount),
         on: true,
     }
 }
 
-// The head is shown.
+// The head is shown, and tells the kind.
 fn head(
     out: &mut [u8],
     r: &[u8],
@@ -104,8 +109,10 @@ fn head(
     banks: &[u32],
     known: &[u8],
 ) -> Walk {
+    let kind = heads::kind_of(r);
     Walk {
-        filled: records::put_head(out, w.filled, r, only, day, banks, known),
+        filled: records::put_head(out, w.filled, r, kind, only, day, banks, known),
+        kind,
         count: 0,
         sum: 0,
         on: true,
@@ -171,6 +178,7 @@ fn put_records(
 ) -> usize {
     let mut w = Walk {
         filled: 0,
+        kind: kinds::ATUTAL,
         count: 0,
         sum: 0,
         on: true,

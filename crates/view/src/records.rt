@@ -67,7 +67,7 @@ fn head_field(i: usize) -> Named {
 // The fields of an item.
 fn item_field(i: usize) -> Named {
     nth(
-        &[1, 14, 19, 15, 8, 9, 16, 12, 17, 18, 13],
+        &[1, 14, 20, 15, 8, 9, 16, 12, 17, 18, 13],
         &[2, 8, 16, 26, 34, 50, 74, 109, 144, 179, Session::ITEM],
         i,
     )
@@ -75,7 +75,7 @@ fn item_field(i: usize) -> Named {
 
 // The fields of a foot.
 fn foot_field(i: usize) -> Named {
-    nth(&[1, 20, 21], &[2, 8, Session::FOOT], i)
+    nth(&[1, 21, 22], &[2, 8, Session::FOOT], i)
 }
 
 // A record, by how many fields its kind has.
@@ -84,6 +84,19 @@ fn field(fields: usize, i: usize) -> Named {
         12 => head_field(i),
         11 => item_field(i),
         _ => foot_field(i),
+    }
+}
+
+// The number of a field's name in a message of a kind: BESZED has a notification date for the debit date, a due date for the credit date
+// (002, 2.1 and 2.3).
+fn number_in(kind: u32, number: usize) -> usize {
+    if kind != kinds::BESZED {
+        return number;
+    }
+    match number {
+        10 => 23,
+        20 => 19,
+        _ => number,
     }
 }
 
@@ -109,46 +122,47 @@ fn put_part(out: &mut [u8], at: usize, r: &[u8], from: usize, last: usize) -> us
     put_text(out, at, &r[from..last])
 }
 
-// A field by name, with its positions and its text.
-fn put_field(out: &mut [u8], at: usize, r: &[u8], from: usize, f: Named) -> usize {
+// A field by its name in a message of a kind, with its positions and its text.
+fn put_field(out: &mut [u8], at: usize, r: &[u8], kind: u32, from: usize, f: Named) -> usize {
     let at = put_at(out, at, b"  ");
-    let at = words::put_field(out, at, f.number);
+    let at = words::put_field(out, at, number_in(kind, f.number));
     let at = put_positions(out, at, from, f.last);
     put_part(out, at, r, from, f.last)
 }
 
-// Each field of a record.
-fn put_fields(out: &mut [u8], at: usize, r: &[u8], fields: usize) -> usize {
+// Each field of a record of a message of a kind.
+fn put_fields(out: &mut [u8], at: usize, r: &[u8], kind: u32, fields: usize) -> usize {
     let mut n = at;
     let mut from = 0;
     let mut i = 0;
     while i < fields {
         let f = field(fields, i);
-        n = put_field(out, n, r, from, f);
+        n = put_field(out, n, r, kind, from, f);
         from = f.last;
         i += 1;
     }
     n
 }
 
-// The head: its fields, and its answer.
+// The head, with the kind that it tells: its fields, and its answer.
 pub(crate) fn put_head(
     out: &mut [u8],
     at: usize,
     r: &[u8],
+    kind: u32,
     only: bool,
     day: u32,
     banks: &[u32],
     known: &[u8],
 ) -> usize {
-    let answer = single::number(single::answer(r, 0, day, banks, known)) as usize;
+    let answer = single::number(single::answer(r, 0, kind, day, banks, known)) as usize;
     if only & (answer < 100) {
         return at;
     }
     let h = heads::found_in(r, day, banks, known);
     let at = put_place(out, at, 0, 0);
     let at = put_at(out, at, b"head\n");
-    let at = put_fields(out, at, r, 12);
+    let at = put_fields(out, at, r, kind, 12);
     told::put_head(out, at, answer, h.code)
 }
 
@@ -158,12 +172,13 @@ fn put_found(
     at: usize,
     r: &[u8],
     k: usize,
+    kind: u32,
     answer: usize,
     f: frame::Found,
 ) -> usize {
     let at = put_counted(out, at, b"item ", k as u64);
     let at = put_at(out, at, b"\n");
-    let at = put_fields(out, at, r, 11);
+    let at = put_fields(out, at, r, kind, 11);
     let at = told::put_item(out, at, answer, f.fault, f.code);
     if f.zero & (f.code == 0) {
         return put_at(out, at, b"  WATCH account is all zeros\n");
@@ -171,12 +186,13 @@ fn put_found(
     at
 }
 
-// The item at place k, which begins at a place of the message.
+// The item at place k of a message of a kind, which begins at a place of the message.
 pub(crate) fn put_item(
     out: &mut [u8],
     at: usize,
     r: &[u8],
     k: usize,
+    kind: u32,
     start: usize,
     only: bool,
     answer: usize,
@@ -186,7 +202,7 @@ pub(crate) fn put_item(
         return at;
     }
     let at = put_place(out, at, k, start);
-    put_found(out, at, r, k, answer, f)
+    put_found(out, at, r, k, kind, answer, f)
 }
 
 // What the items give, against the foot.
@@ -224,13 +240,14 @@ pub(crate) fn put_foot(
     count: u64,
     sum: u64,
 ) -> usize {
-    let code = atutal::foot::code_in(r, count, sum);
+    let code = items::foot::code_in(r, count, sum);
     if only & (code == 0) {
         return at;
     }
     let at = put_place(out, at, k, start);
     let at = put_at(out, at, b"foot\n");
-    let at = put_fields(out, at, r, 3);
+    // its names are the same in both kinds
+    let at = put_fields(out, at, r, kinds::ATUTAL, 3);
     let at = put_given(out, at, count, sum);
     put_code(out, at, code)
 }

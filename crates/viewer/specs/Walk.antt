@@ -1,4 +1,4 @@
--- The records that a walk over an ATUTAL message meets (01, Records), as the cut has them.
+-- The records that a walk over a message meets (01, Records), as the cut has them.
 -- Assumes nothing.
 use Prim.Native.Nat.{ℕ, zero, suc, _+_, _-_}
 use mathlib.Core.Bool.{Bool, cond}

@@ -29,6 +29,7 @@ meanings =
     ∷ means 26 "break, the records can't be cut"
     ∷ means 29 "head, identifier already known"
     ∷ means 32 "item, number out of order"
+    ∷ means 33 "item, due date"
     ∷ means 34 "item, amount is not digits"
     ∷ means 36 "a letter that text may not hold"
     ∷ means 37 "item, bank"

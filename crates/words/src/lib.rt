@@ -89,9 +89,11 @@ amount
 customer id
 address
 account owner
+due date
 credit date
 item count
 sum
+notification date
 ",
         number,
     )
@@ -134,7 +136,7 @@ pub fn put_meaning(out: &mut [u8], at: usize, code: u8) -> usize
         at,
         b"no fault\nhead, bank\nhead, number\n\n\n\n\nhead, debit date\n\nhead, message type\n\n\n\n\n\n\nitem, amount is zero\n\
         \nfoot, item count\nfoot, sum\n\n\n\n\n\n\nbreak, the records can't be cut\n\n\nhead, identifier already known\n\
-        \n\nitem, number out of order\n\nitem, amount is not digits\n\na letter that text may not hold\nitem, bank\n\
+        \n\nitem, number out of order\nitem, due date\nitem, amount is not digits\n\na letter that text may not hold\nitem, bank\n\
         \nitem, number is not digits\n\nhead, type\nhead, duplicate code\nhead, initiator or name\nhead, date\n\
         head, account\nitem, type\n\nhead, purpose\n\n\n\n\n\n\n\n\n\n\n\n\nitem, account\nitem, account owner\n\
         item, customer id\n",

@@ -82,6 +82,11 @@ pub fn is_initiator(field: &[u8]) -> bool {
     }
 }
 
+/// A service provider's "other" identifier: E, eight digits with their check digit, four spaces.
+pub fn is_provider(field: &[u8]) -> bool {
+    matches!(field, [b'E', code @ .., b' ', b' ', b' ', b' '] if satisfies(code))
+}
+
 pub fn is_listed(field: &[u8], banks: &[u32]) -> bool {
     satisfies(field) && number(field).is_some_and(|code| banks.binary_search(&(code as u32)).is_ok())
 }

@@ -6,6 +6,7 @@ mod records;
 mod reply;
 mod session;
 
+pub use records::Kind;
 pub use reply::{reply, Particulars};
 pub use session::{judge, Closing, Session};
 

@@ -1,6 +1,6 @@
-//! Records: what is found in a head, an item, a foot (002 sections 1.1.1, 1.3.1, 1.2.1). A code of 0 is none.
+//! Records: what is found in a head, an item, a foot (002 sections 1.1.1, 1.3.1, 1.2.1; 2.1.1, 2.3.1, 2.2.1). A code of 0 is none.
 
-use super::dates::{day_number, is_within};
+use super::dates::{day_number, days_to_eighth_workday, is_within};
 use super::fields::*;
 use super::Lists;
 
@@ -8,31 +8,71 @@ pub const HEAD: usize = 174;
 pub const ITEM: usize = 249;
 pub const FOOT: usize = 24;
 
+/// The kinds of message, by the numbers that C has for them.
+#[derive(Clone, Copy, Debug, PartialEq, Eq)]
+pub enum Kind {
+    Atutal = 0,
+    Beszed = 1,
+}
+
+impl Kind {
+    /// What a head's positions 3-8 tell: BESZED, or ATUTAL by anything else.
+    fn of(r: &[u8; HEAD]) -> Kind {
+        if &r[2..8] == b"BESZED" {
+            Kind::Beszed
+        } else {
+            Kind::Atutal
+        }
+    }
+
+    fn is_duplicate_code(self, b: u8) -> bool {
+        b.is_ascii_digit() || (self == Kind::Atutal && b == b'@')
+    }
+
+    fn is_initiator(self, field: &[u8]) -> bool {
+        is_initiator(field) || (self == Kind::Beszed && is_provider(field))
+    }
+
+    fn is_name(self, field: &[u8]) -> bool {
+        match self {
+            Kind::Atutal => !is_blank(field),
+            Kind::Beszed => !is_blank_or_zero(field),
+        }
+    }
+}
+
+/// The day number that a field's digits stand for; none where they are no date.
+fn date(field: &[u8]) -> Option<u32> {
+    number(field).and_then(|date| day_number(date as u32))
+}
+
 pub struct Head {
+    pub kind: Kind,
     pub letter: bool,
     pub code: u8,
 }
 
 pub fn judge_head(r: &[u8; HEAD], e: u32, lists: Lists) -> Head {
+    let kind = Kind::of(r);
     Head {
+        kind,
         letter: !is_text(&r[69..174]),
-        code: head_code(r, e, lists),
+        code: head_code(r, kind, e, lists),
     }
 }
 
 /// The code of a head's first fault; e is the clearing day's number.
-fn head_code(r: &[u8; HEAD], e: u32, lists: Lists) -> u8 {
-    let date = |field| number(field).and_then(|date| day_number(date as u32));
+fn head_code(r: &[u8; HEAD], kind: Kind, e: u32, lists: Lists) -> u8 {
     if &r[0..2] != b"01" {
         return 41;
     }
-    if &r[2..8] != b"ATUTAL" {
+    if kind == Kind::Atutal && &r[2..8] != b"ATUTAL" {
         return 9;
     }
-    if !matches!(r[8], b'0'..=b'9' | b'@') {
+    if !kind.is_duplicate_code(r[8]) {
         return 42;
     }
-    if !is_initiator(&r[9..22]) {
+    if !kind.is_initiator(&r[9..22]) {
         return 43;
     }
     if lists.known.chunks_exact(25).any(|id| id == &r[9..34]) {
@@ -50,13 +90,14 @@ fn head_code(r: &[u8; HEAD], e: u32, lists: Lists) -> u8 {
     if !is_account(&r[42..58]) {
         return 45;
     }
-    if !date(&r[58..66]).is_some_and(|debit| debit >= e && is_within(compiled, debit, 10)) {
+    let is_debit_date = |debit: u32| debit >= e && is_within(compiled, debit, 10);
+    if kind == Kind::Atutal && !date(&r[58..66]).is_some_and(is_debit_date) {
         return 7;
     }
     if !is_purpose(&r[66..69]) {
         return 48;
     }
-    if is_blank(&r[69..104]) {
+    if !kind.is_name(&r[69..104]) {
         return 43;
     }
     0
@@ -72,7 +113,7 @@ pub struct Item {
     pub zero: bool,
 }
 
-pub fn judge_item(r: &[u8; ITEM], place: u64, banks: &[u32]) -> Item {
+pub fn judge_item(r: &[u8; ITEM], kind: Kind, place: u64, e: u32, banks: &[u32]) -> Item {
     let amount = number(&r[16..26]);
     let fault = if &r[0..2] != b"02" {
         46
@@ -84,19 +125,22 @@ pub fn judge_item(r: &[u8; ITEM], place: u64, banks: &[u32]) -> Item {
     Item {
         letter: !is_text(&r[50..249]),
         fault,
-        code: item_code(r, place, amount, banks),
+        code: item_code(r, kind, place, e, amount, banks),
         amount: amount.unwrap_or(0),
         zero: is_zero_account(&r[34..50]),
     }
 }
 
-fn item_code(r: &[u8; ITEM], place: u64, amount: Option<u64>, banks: &[u32]) -> u8 {
+fn item_code(r: &[u8; ITEM], kind: Kind, place: u64, e: u32, amount: Option<u64>, banks: &[u32]) -> u8 {
     match number(&r[2..8]) {
         None => return 39,
         Some(n) if n != place => return 32,
         Some(_) => {}
     }
-    if amount == Some(0) {
+    let is_due_date = |due: u32| is_within(e, due, days_to_eighth_workday(e));
+    if kind == Kind::Beszed && !date(&r[8..16]).is_some_and(is_due_date) {
+        33
+    } else if amount == Some(0) {
         16
     } else if !is_listed(&r[26..34], banks) {
         37

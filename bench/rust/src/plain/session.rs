@@ -1,7 +1,7 @@
 //! The judge by pieces: whole records straight out of the piece, the record begun in a buffer (01, Calls and their answers).
 
 use super::dates::day_number;
-use super::records::{judge_foot, judge_head, judge_item, FOOT, HEAD, ITEM};
+use super::records::{judge_foot, judge_head, judge_item, Kind, FOOT, HEAD, ITEM};
 use super::{Lists, Refusal};
 
 const MOST: usize = 10_000;
@@ -22,6 +22,7 @@ impl Totals {
 
 #[derive(Clone, Copy, Debug, PartialEq, Eq)]
 pub struct Closing {
+    pub kind: Kind,
     pub code: u8,
     pub accepted: Totals,
     pub refused: Totals,
@@ -40,6 +41,8 @@ enum Phase {
 
 struct Tally {
     phase: Phase,
+    /// ATUTAL until a head with its right ending was read.
+    kind: Kind,
     letter: bool,
     code: u8,
     accepted: Totals,
@@ -80,25 +83,26 @@ impl Tally {
         } else if let Ok(foot) = record.try_into() {
             self.foot(foot);
         } else {
-            self.item(record.try_into().unwrap(), lists.banks, table);
+            self.item(record.try_into().unwrap(), e, lists.banks, table);
         }
     }
 
     fn head(&mut self, record: &[u8; HEAD], e: u32, lists: Lists) {
         let found = judge_head(record, e, lists);
         self.phase = Phase::Items;
+        self.kind = found.kind;
         self.letter = found.letter;
         self.code = found.code;
         self.id.copy_from_slice(&record[9..34]);
     }
 
-    fn item(&mut self, record: &[u8; ITEM], banks: &[u32], table: &mut [u8]) {
+    fn item(&mut self, record: &[u8; ITEM], e: u32, banks: &[u32], table: &mut [u8]) {
         let before = self.accepted.count + self.refused.count;
         let Some(place) = table.get_mut(before as usize) else {
             self.phase = Phase::Overflow;
             return;
         };
-        let found = judge_item(record, before + 1, banks);
+        let found = judge_item(record, self.kind, before + 1, e, banks);
         *place = found.code;
         self.letter |= found.letter;
         self.fault(found.fault);
@@ -140,6 +144,7 @@ impl Session {
             room: table.len(),
             tally: Tally {
                 phase: Phase::Head,
+                kind: Kind::Atutal,
                 letter: false,
                 code: 0,
                 accepted: Totals::default(),
@@ -203,6 +208,7 @@ impl Session {
         };
         let good = code == 0;
         Ok(Closing {
+            kind: tally.kind,
             code,
             accepted: if good { tally.accepted } else { Totals::default() },
             refused: if good { tally.refused } else { Totals::default() },

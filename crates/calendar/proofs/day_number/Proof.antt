@@ -1,17 +1,10 @@
 -- `calendar::day_number` meets its contract.
 -- Assumes nothing.
-use mathlib.Core.Path.{_≡_, sym, _∙_}
-use mathlib.Core.Bool.{false}
-use Prim.Native.Nat.{ℕ}
-use Rattle.calendar.specs.Calendar.{isDate, dayNumber}
-use Rattle.calendar.proofs.Dates.{is-number}
+use mathlib.Core.Path.{sym, _∙_}
+use Rattle.calendar.proofs.Dates.{is-number, no-number}
 use borrow.Author.Needs.{needs}
 use Rattle.calendar.proofs.day_number.Statement.{statement}
 use Rattle.calendar.proofs.day_number.Tie as tie
-
-none : (n : ℕ) → isDate n ≡ false → 0 ≡ dayNumber n
-unfolding dayNumber
-none n e = simp e
 
 is-date-requires : tie.Need-is-date-requires
 is-date-requires c κs = search needs
@@ -25,7 +18,7 @@ returns c =
     c .days-to .ensures ∙ sym (is-number (c .before .before .before .args .n) e)
 
 returns-2 : tie.Need-returns-2
-returns-2 c = none (c .before .before .args .n) (sym (c .before .is-date .ensures) ∙ c .if1 .left)
+returns-2 c = sym (no-number (c .before .before .args .n) (sym (c .before .is-date .ensures) ∙ c .if1 .left))
 
 pub day-number-spec : {M : Type 1} → statement M
 day-number-spec = tie.close (tie.spec is-date-requires days-to-requires returns returns-2)

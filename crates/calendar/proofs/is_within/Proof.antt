@@ -1,14 +1,13 @@
 -- `calendar::is_within` meets its contract.
 -- Assumes nothing.
-use mathlib.Core.Path.{_≡_, sym, _∙_}
+use mathlib.Core.Path.{_≡_}
 use mathlib.Core.Bool.{true, false}
-use mathlib.Core.Logic.{⊎-elim}
-use Prim.Native.Nat.{ℕ, _+_, _-_, _<_, _≤_}
+use Prim.Native.Nat.{ℕ, _-_, _<_, _≤_}
 use native.Mathlib.Omega.{arith}
 use lib.Dec.{leb}
 use borrow.Author.Tests.{le-leb, lt-leb}
 use Rattle.calendar.specs.Calendar.{isDate, daysTo, dayNumber, isWithin}
-use Rattle.calendar.proofs.Numbers.{lt-or-le}
+use Rattle.calendar.proofs.Numbers.{at-most}
 use Rattle.calendar.proofs.Dates.{is-number, no, yes}
 use borrow.Author.Needs.{needs}
 use Rattle.calendar.proofs.is_within.Statement.{statement}
@@ -34,11 +33,7 @@ module _ (a b k : ℕ) where
       is h =
           let u = is-number a p in
           let v = is-number b q in
-          simp (p, q, le-leb (dayNumber a) (dayNumber b) (omega arith))
-          (⊎-elim
-          (λ (l : k < y - x). lt-leb (y - x) k l ∙ sym (lt-leb (dayNumber b) (dayNumber a + k) (omega arith)))
-          (λ (l : y - x ≤ k). le-leb (y - x) k l ∙ sym (le-leb (dayNumber b) (dayNumber a + k) (omega arith)))
-          (lt-or-le k (y - x)))
+          simp (p, q, le-leb (dayNumber a) (dayNumber b) (omega arith)) (rw (u, v, ← e, ← f) (at-most x y k h))
 
 is-date-requires : tie.Need-is-date-requires
 is-date-requires c κs = search needs

@@ -1,14 +1,9 @@
 -- `checked::compiled_found` meets its contract: it goes by what is read.
 -- Assumes nothing.
-use Rattle.checked.proofs.Dates.{dated, no-digits, no-date}
-use Rattle.checked.specs.Checked.{compiledFound}
-use Rattle.findings.specs.Findings.{unless}
-use mathlib.Core.Path.{ap, _∙_}
-use mathlib.Core.Bool.{Bool}
 use Prim.Native.Nat.{ℕ}
 use Rattle.calendar.specs.Calendar.{isWithin}
-use Rattle.findings.specs.declared.Kind.the-variants.{OutsideDays}
-use Rattle.findings.specs.declared.Finding.the-variants.{Right}
+use Rattle.checked.specs.Checked.{compiledFound, oneOfDays}
+use Rattle.checked.proofs.Dates.{on-day, no-digits, no-date}
 use borrow.Author.Needs.{needs}
 use Rattle.checked.proofs.compiled_found.Statement.{statement}
 use Rattle.checked.proofs.compiled_found.Tie as tie
@@ -38,24 +33,22 @@ returns c =
     let c2 = c1 .before .before in
     let c3 = c2 .before .before in
     let c4 = c3 .before .before in
-    dated (λ (d : ℕ). unless (isWithin d (c4 .args .e) 15) OutsideDays Right) (c4 .args .s .now) (c3 .read-date .result) (c3 .read-date .ensures)
-    (c2 .d .given .0 .0) (c2 .d .given .1) (c .found .result) (c .found .ensures ∙ ap (λ (t : Bool). unless t OutsideDays Right) (c1 .is-within .ensures))
+    on-day (λ (d : ℕ). isWithin d (c4 .args .e) 15) (c4 .args .s .now) (c3 .read-date .result) (c3 .read-date .ensures) (c2 .d .given .0 .0) (c2 .d .given .1)
+    (c1 .is-within .result) (c1 .is-within .ensures) (c .found .result) (c .found .ensures)
 
 returns-2 : tie.Need-returns-2
 unfolding compiledFound
 returns-2 c =
     let c1 = c .before .before in
     let c2 = c1 .before .before in
-    no-digits (λ (d : ℕ). unless (isWithin d (c2 .args .e) 15) OutsideDays Right) (c2 .args .s .now) (c1 .read-date .result) (c1 .read-date .ensures)
-    (c .enum-told .given .1)
+    no-digits (oneOfDays (λ (d : ℕ). isWithin d (c2 .args .e) 15)) (c2 .args .s .now) (c1 .read-date .result) (c1 .read-date .ensures) (c .enum-told .given .1)
 
 returns-3 : tie.Need-returns-3
 unfolding compiledFound
 returns-3 c =
     let c1 = c .before .before in
     let c2 = c1 .before .before in
-    no-date (λ (d : ℕ). unless (isWithin d (c2 .args .e) 15) OutsideDays Right) (c2 .args .s .now) (c1 .read-date .result) (c1 .read-date .ensures)
-    (c .enum-told2 .given .1)
+    no-date (oneOfDays (λ (d : ℕ). isWithin d (c2 .args .e) 15)) (c2 .args .s .now) (c1 .read-date .result) (c1 .read-date .ensures) (c .enum-told2 .given .1)
 
 pub compiled-found-spec : {M : Type 1} → statement M
 compiled-found-spec =

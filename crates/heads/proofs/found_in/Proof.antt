@@ -11,20 +11,22 @@ use Rattle.text.specs.Text.{isText}
 use Rattle.lists.specs.Banks.{foundIn}
 use Rattle.findings.specs.Codes.{firstWhole}
 use Rattle.heads.specs.declared.HeadFindings.{HeadFindings}
-use Rattle.heads.specs.Heads.{headFields, headRulesOf, headRules, headFound}
+use Rattle.kinds.specs.Codes.{headRules, headLetter, headCode}
+use Rattle.heads.specs.Heads.{headFields, headRulesOf, headFound}
+use Rattle.heads.proofs.Tables.{same-code}
 use borrow.Author.Needs.{needs}
 use Rattle.heads.proofs.found_in.Statement.{statement}
 use Rattle.heads.proofs.found_in.Tie as tie
 
 module _ (e : ℕ) (isListed : ℕ → Bool) (known r : List ℕ) where
   other : (length r ≡ 174 → ⊥) → record { letter = false; code = 26 } ≡ headFound e isListed known r
-  unfolding headFound
+  unfolding headFound headLetter headCode
   other f = simp (ne-eqb (length r) 174 f)
 
   head : length r ≡ 174 → (t : Bool) (c : ℕ) → t ≡ isText (field 70 174 r) → {f : HeadFindings} → f ≡ headFields e isListed known r
       → c ≡ firstWhole (headRulesOf f) → record { letter = not t; code = c } ≡ headFound e isListed known r
-  unfolding headFound headRules
-  head h t c p g q = simp (eq-eqb (length r) 174 h, p, q, g)
+  unfolding headFound headLetter headCode
+  head h t c p g q = rw (eq-eqb (length r) 174 h, p, q, g, same-code e isListed known r)
 
 returns : tie.Need-returns
 returns c =

@@ -22,8 +22,8 @@ counted-requires : tie.Need-counted-requires
 counted-requires c κs =
     let c1 = c .before .before .before .before .before .before .before .before .before in
     let a = c1 .args in
-    countable (a .tally) (a .table .now) (a .banks .now) (a .tally .accepted .count + a .tally .refused .count + 1) (a .r .now) (c .found-in .result) (c1 .pre)
-    (c .found-in .ensures)
+    countable (a .tally) (a .table .now) (a .day) (a .banks .now) (a .tally .accepted .count + a .tally .refused .count + 1) (a .r .now)
+    (c .found-in .result) (c1 .pre) (c .found-in .ensures)
 
 same-length : tie.Need-same-length
 same-length c = search needs

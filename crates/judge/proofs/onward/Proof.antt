@@ -4,7 +4,7 @@ use native.Mathlib.Omega.{arith}
 use lib.ListN.{length-drop}
 use Rattle.lent.specs.Lent.{lent}
 use Rattle.frame.specs.Verdict.{Rules}
-use Rattle.atutal.specs.Codes.{rules}
+use Rattle.kinds.specs.Codes.{rules}
 use Rattle.judge.proofs.Turn.{onward-partial, onward-became}
 use borrow.Author.Needs.{needs}
 use Rattle.judge.proofs.onward.Statement.{statement}

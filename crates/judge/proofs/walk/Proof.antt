@@ -8,8 +8,8 @@ use lib.ListN.{length, take, drop}
 use Rattle.lent.specs.Lent.{Lent, lent}
 use Rattle.frame.specs.Verdict.{Rules}
 use Rattle.frame.specs.Sound.{Sound}
-use Rattle.atutal.specs.Codes.{rules}
-use Rattle.atutal.proofs.Instance.{sound}
+use Rattle.kinds.specs.Codes.{rules}
+use Rattle.kinds.proofs.Instance.{sound}
 use Rattle.frame.specs.declared.Tally.{Tally}
 use Rattle.judge.specs.Session.{stateWith}
 use Rattle.judge.proofs.Held.{size-least}

@@ -23,7 +23,7 @@ tell-requires : tie.Need-tell-requires
 tell-requires c κs =
     let c1 = c .before .before .before .before .before .before .before .before in
     let c2 = c1 .before .before .before .before .before .before .before in
-    sizes (c2 .args .numbers .now) 6 (c2 .args .id .now) (c1 .if1 .left)
+    sizes (c2 .args .numbers .now) 7 (c2 .args .id .now) (c1 .if1 .left)
 
 same-length : tie.Need-same-length
 same-length c = search needs

@@ -36,6 +36,12 @@ slice-write-numbers-5 c = simp length-set (omega (arith, c .before .before .befo
 slice-write-numbers-6 : tie.Need-slice-write-numbers-6
 slice-write-numbers-6 c = simp length-set (omega (arith, c .before .before .before .before .before .before .before .pre .0))
 
+cast-numbers-2 : tie.Need-cast-numbers-2
+cast-numbers-2 c = search needs
+
+slice-write-numbers-7 : tie.Need-slice-write-numbers-7
+slice-write-numbers-7 c = simp length-set (omega (arith, c .before .before .before .before .before .before .before .before .pre .0))
+
 slice-aggregate-put : tie.Need-slice-aggregate-put
 slice-aggregate-put c = search needs
 
@@ -43,14 +49,14 @@ put-requires : tie.Need-put-requires
 put-requires c κs = search needs
 
 same-length : tie.Need-same-length
-same-length c = search needs
+same-length c = simp length-set
 
 same-length-2 : tie.Need-same-length-2
 same-length-2 c = search needs
 
 returns-2 : tie.Need-returns-2
 returns-2 c =
-    let c1 = c .before .before .before .before .before .before .before .before .before in
+    let c1 = c .before .before .before .before .before .before .before .before .before .before in
     let c2 = c1 .before .before .before in
     told (c1 .if1 .left) (c2 .pre .0) (c2 .pre .1) (id-at c2) (c .before .before .put .ensures .1)
 
@@ -66,6 +72,8 @@ tell-spec =
     slice-write-numbers-4
     slice-write-numbers-5
     slice-write-numbers-6
+    cast-numbers-2
+    slice-write-numbers-7
     slice-aggregate-put
     put-requires
     same-length

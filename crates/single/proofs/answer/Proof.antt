@@ -22,27 +22,27 @@ use borrow.Author.Needs.{needs}
 use Rattle.single.proofs.answer.Statement.{statement}
 use Rattle.single.proofs.answer.Tie as tie
 
-module _ (l : Lent) (k : ℕ) (r : List ℕ) where
-  no-day : isDate (l .day) ≡ false → Refused NotADay ≡ singleAnswer l k r
+module _ (l : Lent) (kind k : ℕ) (r : List ℕ) where
+  no-day : isDate (l .day) ≡ false → Refused NotADay ≡ singleAnswer l kind k r
   unfolding singleAnswer
   no-day d = rw d
 
   module _ (d : isDate (l .day) ≡ true) {o : Outcome} (i : o ≡ listRefused (l .lists)) where
-    no-list : (q : Refusal) → o ≡ outcome.Refused q → Refused q ≡ singleAnswer l k r
+    no-list : (q : Refusal) → o ≡ outcome.Refused q → Refused q ≡ singleAnswer l kind k r
     unfolding singleAnswer
     no-list q h = rw (d, ← i, h)
 
     module _ (h : o ≡ outcome.Done) where
-      head : length r ≡ lengths .head → {a : Answer} → a ≡ headAnswer (l .day) (foundIn (l .lists .banks)) (l .lists .known) r → a ≡ singleAnswer l k r
+      head : length r ≡ lengths .head → {a : Answer} → a ≡ headAnswer (l .day) (foundIn (l .lists .banks)) (l .lists .known) r → a ≡ singleAnswer l kind k r
       unfolding singleAnswer
       head n f = rw (d, ← i, h, eq-eqb (length r) (lengths .head) n) f
 
       module _ (m : length r ≡ lengths .head → ⊥) where
-        item : length r ≡ lengths .item → {a : Answer} → a ≡ itemAnswer (foundIn (l .lists .banks)) k r → a ≡ singleAnswer l k r
+        item : length r ≡ lengths .item → {a : Answer} → a ≡ itemAnswer kind (l .day) (foundIn (l .lists .banks)) k r → a ≡ singleAnswer l kind k r
         unfolding singleAnswer
         item n f = rw (d, ← i, h, ne-eqb (length r) (lengths .head) m, eq-eqb (length r) (lengths .item) n) f
 
-        other : (length r ≡ lengths .item → ⊥) → Refused Malformed ≡ singleAnswer l k r
+        other : (length r ≡ lengths .item → ⊥) → Refused Malformed ≡ singleAnswer l kind k r
         unfolding singleAnswer
         other n = rw (d, ← i, h, ne-eqb (length r) (lengths .head) m, ne-eqb (length r) (lengths .item) n)
 
@@ -57,7 +57,7 @@ returns : tie.Need-returns
 returns c =
     let c1 = c .before in
     let c2 = c1 .before .before .before .before in
-    no-day (given c2) (c2 .args .k) (c2 .args .r .now) (sym (c1 .is-date .ensures) ∙ not-true _ (c .if1 .taken))
+    no-day (given c2) (c2 .args .kind) (c2 .args .k) (c2 .args .r .now) (sym (c1 .is-date .ensures) ∙ not-true _ (c .if1 .taken))
 
 list-refused-requires : tie.Need-list-refused-requires
 list-refused-requires c κs = search needs
@@ -79,7 +79,7 @@ returns-2 c =
     let c4 = c3 .before in
     let c5 = c4 .before in
     let c6 = c5 .before .before .before .before in
-    head (given c6) (c6 .args .k) (c6 .args .r .now) (sym (c5 .is-date .ensures) ∙ not-false _ (c4 .if1 .left)) (c3 .list-refused .ensures)
+    head (given c6) (c6 .args .kind) (c6 .args .k) (c6 .args .r .now) (sym (c5 .is-date .ensures) ∙ not-false _ (c4 .if1 .left)) (c3 .list-refused .ensures)
     (done (c3 .list-refused .result) (c2 .match .keys2)) (c1 .if2 .taken) (c .head-alone .ensures)
 
 item-alone-requires : tie.Need-item-alone-requires
@@ -94,7 +94,7 @@ returns-3 c =
     let c5 = c4 .before in
     let c6 = c5 .before in
     let c7 = c6 .before .before .before .before in
-    item (given c7) (c7 .args .k) (c7 .args .r .now) (sym (c6 .is-date .ensures) ∙ not-false _ (c5 .if1 .left)) (c4 .list-refused .ensures)
+    item (given c7) (c7 .args .kind) (c7 .args .k) (c7 .args .r .now) (sym (c6 .is-date .ensures) ∙ not-false _ (c5 .if1 .left)) (c4 .list-refused .ensures)
     (done (c4 .list-refused .result) (c3 .match .keys2)) (c2 .if2 .left) (c1 .if3 .taken) (c .item-alone .ensures)
 
 returns-4 : tie.Need-returns-4
@@ -104,7 +104,7 @@ returns-4 c =
     let c3 = c2 .before in
     let c4 = c3 .before in
     let c5 = c4 .before .before .before .before in
-    no-list (given c5) (c5 .args .k) (c5 .args .r .now) (sym (c4 .is-date .ensures) ∙ not-false _ (c3 .if1 .left)) (c2 .list-refused .ensures)
+    no-list (given c5) (c5 .args .kind) (c5 .args .k) (c5 .args .r .now) (sym (c4 .is-date .ensures) ∙ not-false _ (c3 .if1 .left)) (c2 .list-refused .ensures)
     (c1 .why .given .0 .0) (c1 .why .given .1)
 
 returns-5 : tie.Need-returns-5
@@ -115,7 +115,7 @@ returns-5 c =
     let c4 = c3 .before in
     let c5 = c4 .before in
     let c6 = c5 .before .before .before .before in
-    other (given c6) (c6 .args .k) (c6 .args .r .now) (sym (c5 .is-date .ensures) ∙ not-false _ (c4 .if1 .left)) (c3 .list-refused .ensures)
+    other (given c6) (c6 .args .kind) (c6 .args .k) (c6 .args .r .now) (sym (c5 .is-date .ensures) ∙ not-false _ (c4 .if1 .left)) (c3 .list-refused .ensures)
     (done (c3 .list-refused .result) (c2 .match .keys2)) (c1 .if2 .left) (c .if3 .left)
 
 pub answer-spec : {M : Type 1} → statement M

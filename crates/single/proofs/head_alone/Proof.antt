@@ -8,17 +8,17 @@ use lib.ListN.{length}
 use borrow.Author.Tests.{eq-eqb}
 use Rattle.lists.specs.Banks.{foundIn}
 use Rattle.findings.specs.Naming.{firstNamed, namedOr}
-use Rattle.findings.proofs.Naming.{in-parts}
-use Rattle.heads.specs.Heads.{headFields, headFindings, headRulesOf, headRules}
+use Rattle.heads.specs.Heads.{headFindings, headRulesOf}
 use Rattle.single.specs.Single.{headTexts, headAnswer}
+use Rattle.single.proofs.Fields.{head-is}
 use borrow.Author.Needs.{needs}
 use Rattle.single.proofs.head_alone.Statement.{statement}
 use Rattle.single.proofs.head_alone.Tie as tie
 
 is-answer : (e : ℕ) (isListed : ℕ → Bool) (known r : List ℕ) → length r ≡ 174
     → namedOr (headTexts r) (firstNamed (headRulesOf (headFindings e isListed known r))) ≡ headAnswer e isListed known r
-unfolding headFindings headRules headAnswer
-is-answer e isListed known r h = rw (eq-eqb (length r) 174 h) (in-parts (headTexts r) (headRulesOf (headFields e isListed known r)))
+unfolding headFindings
+is-answer e isListed known r h = rw (eq-eqb (length r) 174 h) (head-is e isListed known r)
 
 all-findings-requires : tie.Need-all-findings-requires
 all-findings-requires c κs = search needs

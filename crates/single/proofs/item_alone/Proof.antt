@@ -8,17 +8,17 @@ use lib.ListN.{length}
 use borrow.Author.Tests.{eq-eqb}
 use Rattle.lists.specs.Banks.{foundIn}
 use Rattle.findings.specs.Naming.{firstNamed, namedOr}
-use Rattle.findings.proofs.Naming.{in-parts}
-use Rattle.atutal.specs.Codes.{itemFields, itemFindings, rulesOf, itemRules}
+use Rattle.items.specs.Items.{itemFindings, rulesOf}
 use Rattle.single.specs.Single.{itemTexts, itemAnswer}
+use Rattle.single.proofs.Fields.{item-is}
 use borrow.Author.Needs.{needs}
 use Rattle.single.proofs.item_alone.Statement.{statement}
 use Rattle.single.proofs.item_alone.Tie as tie
 
-is-answer : (isListed : ℕ → Bool) (k : ℕ) (r : List ℕ) → length r ≡ 249
-    → namedOr (itemTexts r) (firstNamed (rulesOf (itemFindings isListed k r))) ≡ itemAnswer isListed k r
-unfolding itemFindings itemRules itemAnswer
-is-answer isListed k r h = rw (eq-eqb (length r) 249 h) (in-parts (itemTexts r) (rulesOf (itemFields isListed k r)))
+is-answer : (kind e : ℕ) (isListed : ℕ → Bool) (k : ℕ) (r : List ℕ) → length r ≡ 249
+    → namedOr (itemTexts r) (firstNamed (rulesOf (itemFindings kind e isListed k r))) ≡ itemAnswer kind e isListed k r
+unfolding itemFindings
+is-answer kind e isListed k r h = rw (eq-eqb (length r) 249 h) (item-is kind e isListed k r)
 
 all-findings-requires : tie.Need-all-findings-requires
 all-findings-requires c κs = search needs
@@ -35,7 +35,8 @@ returns c =
     let c2 = c1 .before in
     let c3 = c2 .before .before .before in
     c .item-letters .ensures
-    ∙ rw (c1 .item-named .ensures, c2 .all-findings .ensures) (is-answer (foundIn (c3 .args .banks .now)) (c3 .args .k) (c3 .args .r .now) (c3 .pre))
+    ∙ rw (c1 .item-named .ensures, c2 .all-findings .ensures)
+    (is-answer (c3 .args .kind) (c3 .args .e) (foundIn (c3 .args .banks .now)) (c3 .args .k) (c3 .args .r .now) (c3 .pre))
 
 pub item-alone-spec : {M : Type 1} → statement M
 item-alone-spec =

@@ -126,6 +126,12 @@ enum-known-a-19 c = search needs
 field-and-kind-requires-18 : tie.Need-field-and-kind-requires-18
 field-and-kind-requires-18 c κs = search needs
 
+enum-known-a-20 : tie.Need-enum-known-a-20
+enum-known-a-20 c = search needs
+
+field-and-kind-requires-19 : tie.Need-field-and-kind-requires-19
+field-and-kind-requires-19 c κs = search needs
+
 returns : tie.Need-returns
 unfolding singleNumber
 returns c = rw (c .enum-told .given .1)
@@ -206,6 +212,10 @@ returns-20 : tie.Need-returns-20
 unfolding singleNumber
 returns-20 c = rw (c .before .before .a19 .given .1) (c .field-and-kind18 .ensures)
 
+returns-21 : tie.Need-returns-21
+unfolding singleNumber
+returns-21 c = rw (c .before .before .a20 .given .1) (c .field-and-kind19 .ensures)
+
 pub number-spec : {M : Type 1} → statement M
 number-spec =
     tie.close
@@ -250,6 +260,8 @@ number-spec =
     field-and-kind-requires-17
     enum-known-a-19
     field-and-kind-requires-18
+    enum-known-a-20
+    field-and-kind-requires-19
     returns
     returns-2
     returns-3
@@ -269,4 +281,5 @@ number-spec =
     returns-17
     returns-18
     returns-19
-    returns-20)
+    returns-20
+    returns-21)

@@ -1,24 +1,10 @@
--- `lines::slip::slip_length` meets its contract: the lengths of the four lines.
+-- `lines::slip::slip_length` meets its contract: the lengths of the five lines.
 -- Assumes nothing.
-use mathlib.Core.Path.{_≡_}
-use Prim.Native.Nat.{ℕ, _+_}
 use native.Mathlib.Omega.{arith}
-use lib.ListN.{length, length-append}
-use Rattle.digits.proofs.Figures.{figures-length}
-use Rattle.frame.specs.declared.Closing.{Closing}
-use Rattle.frame.specs.declared.Totals.{Totals}
-use Rattle.lines.specs.Slip.{places, codeWidth, slipOf}
+use Rattle.lines.proofs.Long.{slip-long}
 use borrow.Author.Needs.{needs}
 use Rattle.lines.proofs.slip.slip_length.Statement.{statement}
 use Rattle.lines.proofs.slip.slip_length.Tie as tie
-
--- the digits of totals
-abbrev both : Totals → ℕ
-both t = places (t .count) + places (t .sum)
-
-slip-long : (k : Closing) → length (slipOf k) ≡ 36 + codeWidth (k .code) + both (k .accepted) + both (k .refused) + places (k .zeros)
-unfolding slipOf
-slip-long k = simp (length-append, figures-length) (omega arith)
 
 places-requires : tie.Need-places-requires
 places-requires c κs = search needs

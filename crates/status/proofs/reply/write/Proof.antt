@@ -10,7 +10,7 @@ use borrow.Author.Tests.{le-leb, lt-leb, not-true, not-false}
 use Rattle.base.specs.Bytes.{over}
 use Rattle.frame.specs.Records.{lengths, idOf, itemsOf}
 use Rattle.frame.specs.Verdict.{tableAfter}
-use Rattle.atutal.specs.Codes.{rules}
+use Rattle.kinds.specs.Codes.{rules}
 use Rattle.lent.specs.Lent.{Lent, lent}
 use Rattle.lent.specs.declared.Refusal.{Refusal}
 use Rattle.lent.specs.declared.Refusal.the-variants as refusal

@@ -6,10 +6,10 @@ use Rattle.trial.proofs.cuts.same_numbers.Statement.{statement}
 use Rattle.trial.proofs.cuts.same_numbers.Tie as tie
 
 abbrev Inv-loop : tie.InvT-loop
-Inv-loop a b i₀ i = i ≤ 6
+Inv-loop a b i₀ i = i ≤ 7
 
 abbrev μ-loop : tie.MeasureT-loop
-μ-loop a b i₀ i = 6 - i
+μ-loop a b i₀ i = 7 - i
 
 loop-holds : tie.Need-loop-holds Inv-loop μ-loop
 loop-holds c = search needs

@@ -1,6 +1,0 @@
-pub mod Tables
-pub mod Bounds
-pub mod Totals
-pub mod Instance
-pub mod Faultless
-pub mod Listed

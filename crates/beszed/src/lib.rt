@@ -1,0 +1,1 @@
+// The field rules of BESZED: definitions only (specs/Tables).

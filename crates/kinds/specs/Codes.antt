@@ -1,0 +1,88 @@
+-- The codes that follow from the tables of a message's kind: the rules of a message of either kind
+-- (01, Faults of the whole message; 02, #101; 002 sections 1.2.1 and 2.2.1).
+-- Assumes nothing.
+use Prim.Native.Nat.{ℕ}
+use mathlib.Core.Bool.{Bool, false, cond, not}
+use mathlib.Core.List.{List, [], _∷_}
+use lib.ListN.{length}
+use lib.Dec.{eqb}
+use Rattle.base.specs.Bytes.{field}
+use Rattle.text.specs.Text.{isText}
+use Rattle.digits.specs.Digits.{numberOf}
+use Rattle.account.specs.Account.{isZeroAccount}
+use Rattle.lists.specs.Banks.{member, foundIn}
+use Rattle.frame.specs.declared.Found.{Found}
+use Rattle.frame.specs.Records.{lengths}
+use Rattle.frame.specs.Verdict.{Rules, first}
+use Rattle.findings.specs.Codes.{Rule, firstWhole, firstAlone}
+use Rattle.fields.specs.Fields.{totalCode}
+use Rattle.lent.specs.Lent.{Lent}
+use Rattle.kinds.specs.Kinds.{kindOf, tables}
+
+-- the rules of a head by the kind that it tells itself, and of an item by the kind that its head told
+unfoldable pub headRules : ℕ → (ℕ → Bool) → List ℕ → List ℕ → List Rule
+headRules e isListed known r = tables (kindOf r) e isListed .head known r
+
+unfoldable pub itemRules : ℕ → ℕ → (ℕ → Bool) → ℕ → List ℕ → List Rule
+itemRules kind e isListed k r = tables kind e isListed .item k r
+
+-- text is head 70-174; bytes of another length are a break
+unfoldable pub headLetter : List ℕ → Bool
+headLetter r = cond (eqb (length r) (lengths .head)) (not (isText (field 70 174 r))) false
+
+unfoldable pub headCode : ℕ → (ℕ → Bool) → List ℕ → List ℕ → ℕ
+headCode e isListed known r = cond (eqb (length r) (lengths .head)) (firstWhole (headRules e isListed known r)) 26
+
+-- text is item 51-249; an amount that isn't ten digits counts as 0; bytes of another length are a break
+unfoldable pub itemFound : ℕ → ℕ → (ℕ → Bool) → ℕ → List ℕ → Found
+itemFound kind e isListed k r =
+    cond (eqb (length r) (lengths .item))
+    (record {
+      letter = not (isText (field 51 249 r));
+      fault = firstWhole (itemRules kind e isListed k r);
+      code = firstAlone (itemRules kind e isListed k r);
+      amount = numberOf (field 17 26 r);
+      zero = isZeroAccount (field 35 50 r);
+    })
+    (record { letter = false; fault = 26; code = 0; amount = 0; zero = false })
+
+-- 1.2.1 and 2.2.1: the count is six digits and the items' number, the sum sixteen digits and theirs; bytes of another length are a break
+unfoldable pub footCode : ℕ → ℕ → List ℕ → ℕ
+footCode count sum r =
+    cond (eqb (length r) (lengths .foot))
+    (first (totalCode 6 count 18 (field 3 8 r) ∷ totalCode 16 sum 19 (field 9 24 r) ∷ []))
+    26
+
+-- the rules of a message, with E, which banks are listed, and the known list; its head tells the items its kind
+abbrev pub rulesBy : ℕ → (ℕ → Bool) → List ℕ → Rules
+rulesBy e isListed known =
+    record {
+      tells = kindOf;
+      headLetter = headLetter;
+      headCode = headCode e isListed known;
+      item = λ kind k r. itemFound kind e isListed k r;
+      footCode = footCode;
+      footCount = λ r. numberOf (field 3 8 r);
+      footSum = λ r. numberOf (field 9 24 r);
+    }
+
+-- the rules of one kind alone, whatever a head tells
+abbrev pub rulesOfKind : ℕ → ℕ → (ℕ → Bool) → List ℕ → Rules
+rulesOfKind kind e isListed known =
+    record {
+      tells = λ r. kind;
+      headLetter = headLetter;
+      headCode = λ r. cond (eqb (length r) (lengths .head)) (firstWhole (tables kind e isListed .head known r)) 26;
+      item = λ told k r. itemFound kind e isListed k r;
+      footCode = footCode;
+      footCount = λ r. numberOf (field 3 8 r);
+      footSum = λ r. numberOf (field 9 24 r);
+    }
+
+-- for what is lent, as the search by halves finds a bank
+abbrev pub rules : Lent → Rules
+rules l = rulesBy (l .day) (foundIn (l .lists .banks)) (l .lists .known)
+
+-- and by membership of the bank list
+abbrev pub memberRules : Lent → Rules
+memberRules l = rulesBy (l .day) (λ x. member x (l .lists .banks)) (l .lists .known)

@@ -1,0 +1,5 @@
+pub mod Kinds
+pub mod Codes
+pub mod Faultless
+pub mod Examples
+pub mod Debits
