@@ -121,6 +121,12 @@ uint32_t nsh_single(const uint8_t *record, size_t record_len, uint32_t day, cons
 #define NSH_KIND_BLANK_OR_ZERO 10
 #define NSH_KIND_OUT_OF_ORDER 11
 #define NSH_KIND_OTHER 12
+/* An account's own: the first eight bytes aren't digits; the last eight are neither digits nor spaces; the check digit over the eight
+   digits before eight spaces, over sixteen digits. The first two of these four stand in order after FORM, the others after CHECK_DIGIT. */
+#define NSH_KIND_FORM_OF_FIRST_EIGHT 13
+#define NSH_KIND_FORM_OF_LAST_EIGHT 14
+#define NSH_KIND_CHECK_DIGIT_OVER_EIGHT 15
+#define NSH_KIND_CHECK_DIGIT_OVER_SIXTEEN 16
 
 /* The STATUS reply to a whole message goes to the front of out: refusals 99, 1, 2, 3, 6, 7, 8, 9. numbers[0] is its length, 104 bytes
    or 104 + 65 for each item; bytes of out beyond it stay. duplicate is '0' or '@', number the reply's, time hhmmss. */

@@ -117,6 +117,10 @@ BANK_VALUES += [b"1600000 ", b" 6000009", b"9900120\xff"]
 ACCOUNT_VALUES = b"1234567600001238 1234567600001239 0000000000000000 1600000900000000 6100000900000000".split()
 ACCOUNT_VALUES += [value.ljust(16) for value in (b"12345676", b"12345677", b"123456760", b"00000000", b"1234567", b"")]
 ACCOUNT_VALUES += [b"        12345676", b"12345676       0", b"123456760000123\r", b"12345676" + bytes(8)]
+# 02 #102: the halves of an account: digits good and bad by annex 6, zeros, spaces, digits and spaces, other bytes; each first with each last.
+FIRST_EIGHT = [b"12345676", b"12345677", b"00000000", b" " * 8, b"1234567 ", b" 2345676", b"1234 676", b"1234567:", b"/2345676", b"123\xff5676"]
+LAST_EIGHT = [b"12345676", b"12345677", b"12345675", b"00000000", b" " * 8, b"0       ", b"       0", b"1234567 ", b" 2345676", b"1234567:"]
+HALVES = [first + last for first in FIRST_EIGHT for last in LAST_EIGHT + [b"\x002345676", b"   \r\n   "]]
 LETTERS = bytes.fromhex("81828A8B9094999AA0A1A2A3B5D6E0E9EBFB")
 BAD_LETTERS = b"\x00\x1f\x7f\x80\x83\x8c\x9b\xa4\xb6\xd5\xe1\xea\xff\r\n\t"
 
@@ -515,6 +519,21 @@ def singles(count, kind=ATUTAL):
         single_case(1, [(0, 9999, b"")], number)
 
 
+def halves(kind):
+    """Every pair of halves of an account: in items, five to a message, in the head of a message, and in single records."""
+    begin(5, kind, "each first half of an item's account with each last half")
+    for k in range(0, len(HALVES), 5):
+        message_case(5, [change(start, (35, value)) for start, value in zip(starts(5)[1:], HALVES[k:])])
+    begin(1, kind, "each first half of the head's account with each last half")
+    for value in HALVES:
+        message_case(1, [change(0, (43, value))])
+    for record, first in zip(records(1, kind), (43, 35)):
+        comment("a single record of %s: each first half of its account with each last half" % kind.decode())
+        base([record], endings=False)
+        for value in HALVES:
+            single_case(1, [change(0, (first, value))], KINDS.index(kind))
+
+
 # Numbers of a kind: that of each, the next one, and some of which a part is 1.
 NUMBERS = (0, 1, 2, 257, 2147483649, 4294967295)
 
@@ -899,6 +918,8 @@ def main():
     calls_on_damaged_sessions(BESZED, (100, [], 3), (178, SECOND, 3))
     calls_with_kinds_put_in()
     calls_after_refused_pieces(2, BESZED, 1, 3)
+    for kind in KINDS:
+        halves(kind)
     hand_written()
 
 

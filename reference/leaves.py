@@ -6,9 +6,9 @@ Written from documents 01 and 02 and the standard 002 alone, not from the code
 that is held to it. Each input line is a command letter, a space and the rest as raw
 bytes; each output line is the input line, a tab and the answers, each after a
 space. In the input, a `t` line that starts with ## is a heading: it says what the
-lines after it try, and is itself tried as text. An account is 0 good, 1 of a bad
-form, 2 of a bad check digit; a date field is 1 and the day's number, 2 not digits,
-3 no date.
+lines after it try, and is itself tried as text. An account is 0 good, 1 or 2 where its
+first or its last eight have a wrong form, 3 or 4 where its check digit over eight or
+over sixteen is wrong; a date field is 1 and the day's number, 2 not digits, 3 no date.
 """
 
 import datetime
@@ -75,12 +75,32 @@ def account_digits(field):
     return digits if all_digits(digits) else None
 
 
+# 02 #102: what an account is found to be; in the order of its table, good first.
+ACCOUNTS = GOOD, FORM_OF_FIRST_EIGHT, FORM_OF_LAST_EIGHT, CHECK_DIGIT_OVER_EIGHT, CHECK_DIGIT_OVER_SIXTEEN = (
+    b"good",
+    b"form-of-first-eight",
+    b"form-of-last-eight",
+    b"check-digit-over-eight",
+    b"check-digit-over-sixteen",
+)
+
+
 def account(field):
-    """01 "Calls and their answers": form comes before check digit."""
+    """02 #102: which half is wrong, the first where both have a wrong form. Bytes of another length have no first eight."""
+    first, last = field[:8], field[8:]
+    if len(field) != 16 or not all_digits(first):
+        return FORM_OF_FIRST_EIGHT
+    if last == b" " * 8:
+        return GOOD if check_digit(first) else CHECK_DIGIT_OVER_EIGHT
+    if not all_digits(last):
+        return FORM_OF_LAST_EIGHT
+    return GOOD if check_digit(field) else CHECK_DIGIT_OVER_SIXTEEN
+
+
+def is_account(field):
+    """01 "Digits and dates": an account is good or it isn't; 02 #102 leaves that as it was."""
     digits = account_digits(field)
-    if digits is None:
-        return b"form"
-    return b"good" if check_digit(digits) else b"check"
+    return digits is not None and check_digit(digits)
 
 
 def account_zero(field):
@@ -192,7 +212,8 @@ def answers(command, rest):
     if command == b"e":
         return [ean13(rest)]
     if command == b"a":
-        return [[b"good", b"form", b"check"].index(account(rest)), account_zero(rest)]
+        assert is_account(rest) == (account(rest) == GOOD)
+        return [ACCOUNTS.index(account(rest)), account_zero(rest)]
     if command == b"n":
         return write_number(int(rest[:2]), int(rest[2:22]), rest[22:])
     if command == b"x":

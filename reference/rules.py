@@ -11,6 +11,7 @@ import datetime
 from functools import lru_cache, partial
 
 import leaves
+from leaves import CHECK_DIGIT_OVER_EIGHT, CHECK_DIGIT_OVER_SIXTEEN, FORM_OF_FIRST_EIGHT, FORM_OF_LAST_EIGHT
 from leaves import all_digits, check_digit, date, number
 
 # 01 "Records": lengths without the ending.
@@ -20,7 +21,7 @@ BREAK = 26
 # 02 #101: the kinds of a message, by their numbers in include/nshanvekh.h.
 ATUTAL, BESZED = 0, 1
 
-# 01 "Calls and their answers": the kinds, in its order.
+# 01 "Calls and their answers": the kinds, in its order. Those of an account (02 #102) are named in leaves.py.
 LETTER = b"letter"
 MARK = b"mark"
 FORM = b"form"
@@ -60,8 +61,10 @@ ITEM_CODES = {
     (b"bank", NOT_DIGITS): 37,
     (b"bank", CHECK_DIGIT): 37,
     (b"bank", NOT_LISTED): 37,
-    (b"account", FORM): 61,
-    (b"account", CHECK_DIGIT): 61,
+    (b"account", FORM_OF_FIRST_EIGHT): 61,
+    (b"account", FORM_OF_LAST_EIGHT): 61,
+    (b"account", CHECK_DIGIT_OVER_EIGHT): 61,
+    (b"account", CHECK_DIGIT_OVER_SIXTEEN): 61,
     (b"customer-id", BLANK_OR_ZERO): 63,
     (b"owner", BLANK_OR_ZERO): 62,
 }
@@ -95,8 +98,9 @@ def bank(field, banks):
 
 
 def account(field):
-    """01 "Digits and dates"; 002 1.1.1 and 2.1.1 F215.2, 1.3.1 and 2.3.1 T214.2."""
-    return {b"good": None, b"form": FORM, b"check": CHECK_DIGIT}[leaves.account(field)]
+    """01 "Digits and dates"; 02 #102; 002 1.1.1 and 2.1.1 F215.2, 1.3.1 and 2.3.1 T214.2."""
+    found = leaves.account(field)
+    return unless(found == leaves.GOOD, found)
 
 
 def no_date(field):

@@ -75,6 +75,7 @@ FIELDS = b"""
 """.split()
 KINDS = b"""
     letter mark form not-digits check-digit no-date outside-days not-listed known blank-or-zero out-of-order other
+    form-of-first-eight form-of-last-eight check-digit-over-eight check-digit-over-sixteen
 """.split()
 
 

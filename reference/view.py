@@ -62,7 +62,7 @@ LETTERS = bytes.fromhex("81828A8B9094999AA0A1A2A3B5D6E0E9EBFB")
 # The fields of rules.py that have another name in 01 "Records".
 NAMES = {"owner": "account owner"}
 
-# 01 "Calls and their answers", the kinds.
+# 01 "Calls and their answers" and 02 #102, the kinds. An account's tell a clerk which characters to retype; the bank stands before them.
 KINDS = {
     rules.LETTER: "a letter that text may not hold",
     rules.MARK: "not the right mark",
@@ -76,6 +76,10 @@ KINDS = {
     rules.BLANK_OR_ZERO: "blank or zero",
     rules.OUT_OF_ORDER: "out of order",
     rules.OTHER: "more than ten days after the date",
+    rules.FORM_OF_FIRST_EIGHT: "wrong form in the first eight, retype the eight characters after the bank",
+    rules.FORM_OF_LAST_EIGHT: "wrong form in the last eight, retype the last eight characters",
+    rules.CHECK_DIGIT_OVER_EIGHT: "check digit over eight, retype the eight characters after the bank",
+    rules.CHECK_DIGIT_OVER_SIXTEEN: "check digit over sixteen, retype the sixteen characters after the bank",
 }
 
 # docs/CODES.md: what each code is given for.

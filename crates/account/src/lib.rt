@@ -1,43 +1,77 @@
-// Account fields: sixteen digits, or eight digits and eight spaces, with a check digit over the digits.
+// Account fields: sixteen digits, or eight digits and eight spaces, with a check digit over the digits; and which eight are wrong.
 ghost use mathlib.Core.Path.{_≡_};
+ghost use mathlib.Core.Bool.{false, _&&_, _||_};
+ghost use lib.ListN.{length};
 ghost use Rattle.base.specs.Bytes.{every};
-ghost use Rattle.account.specs.Account.{zero, digitsFound, accountOf, isZeroAccount};
+ghost use Rattle.text.specs.Text.{isBlank};
+ghost use Rattle.digits.specs.Digits.{isDigits};
+ghost use Rattle.cdv.specs.Check.{satisfies};
+ghost use Rattle.account.specs.Account.{zero, own, accountOf, isZeroAccount};
 
-// What an account field is found to be.
+// What an account field is found to be (02 #102).
 pub enum Account {
     Good,
-    Form,
-    CheckDigit,
+    FormOfFirstEight,
+    FormOfLastEight,
+    CheckDigitOverEight,
+    CheckDigitOverSixteen,
 }
 
-// The digits of an account field: good, or what is wrong with them.
-fn digits_found(s: &[u8]) -> Account
-    ensures { λ r. ⌜ r ≡ digitsFound (now (s .entry)) ⌝ }
+// The digits of an account field of sixteen bytes: its first eight where eight spaces follow, else all. Nine digits and seven spaces are no account.
+fn digits_of(s: &[u8]) -> &[u8]
+    requires { ⌜ length (now s) ≡ 16 ⌝ }
+    ensures { λ r. ⌜ now r ≡ own (now (s .entry)) ⌝ }
 {
-    if cdv::satisfies(s) {
-        return Account::Good;
+    if s[8] != b' ' {
+        return s;
     }
-    if digits::is_digits(s) {
-        Account::CheckDigit
-    } else {
-        Account::Form
+    if text::is_blank(&s[9..16]) {
+        return &s[0..8];
     }
+    s
 }
 
-// What the field is found to be (01, Digits and dates). Nine digits and seven spaces is no account.
+// A half of an account has its form: digits, or spaces where they may stand.
+fn is_half(s: &[u8], spaces: bool) -> bool
+    ensures { λ r. ⌜ r ≡ isDigits (now (s .entry)) || (spaces && isBlank (now (s .entry))) ⌝ }
+{
+    if digits::is_digits(s) {
+        return true;
+    }
+    if spaces {
+        return text::is_blank(s);
+    }
+    false
+}
+
+// What is wrong with sixteen bytes whose digits don't satisfy the check digit.
+fn fault(s: &[u8]) -> Account
+    requires { ⌜ (length (now s) ≡ 16) × (satisfies (own (now s)) ≡ false) ⌝ }
+    ensures { λ r. ⌜ r ≡ accountOf (now (s .entry)) ⌝ }
+{
+    if !is_half(&s[0..8], false) {
+        return Account::FormOfFirstEight; // whatever the last eight are
+    }
+    if !is_half(&s[8..16], true) {
+        return Account::FormOfLastEight;
+    }
+    if text::is_blank(&s[8..16]) {
+        return Account::CheckDigitOverEight;
+    }
+    Account::CheckDigitOverSixteen
+}
+
+// What the field is found to be (01, Digits and dates; 02 #102). What satisfies the check digit is digits, so halves are looked at only in a fault.
 pub fn read(s: &[u8]) -> Account
     ensures { λ r. ⌜ r ≡ accountOf (now (s .entry)) ⌝ }
 {
     if s.len() != 16 {
-        return Account::Form;
+        return Account::FormOfFirstEight;
     }
-    if s[8] == b' ' {
-        if !text::is_blank(&s[8..16]) {
-            return Account::Form;
-        }
-        return digits_found(&s[0..8]);
+    if cdv::satisfies(digits_of(s)) {
+        return Account::Good;
     }
-    digits_found(s)
+    fault(s)
 }
 
 // Each byte is '0'. A byte that isn't is most often the first.
@@ -61,8 +95,5 @@ pub fn is_zero(s: &[u8]) -> bool
     if s.len() != 16 {
         return false;
     }
-    if text::is_blank(&s[8..16]) {
-        return all_zero(&s[0..8]);
-    }
-    all_zero(s)
+    all_zero(digits_of(s))
 }

@@ -5,7 +5,7 @@ use mathlib.Core.Bool.{Bool, true, false, _&&_, and-assoc, and-true, and-false, 
 use mathlib.Core.List.{List, [], _∷_}
 use Prim.Native.Nat.{ℕ, zero, suc, _+_, _<_, _≤_}
 use native.Mathlib.Omega.{arith}
-use lib.ListN.{length, getD, drop}
+use lib.ListN.{length, getD, take, drop}
 use Rattle.base.specs.Bytes.{every}
 use Rattle.base.proofs.Walk.{step, done}
 
@@ -45,3 +45,9 @@ weaker f g k [] e = refl
 weaker f g k (b ∷ bs) e =
     let h = both (f b) (every f bs) e in
     simp (k b (h .0)) (weaker f g k bs (h .1))
+
+-- the front and the rest
+pub every-parts : (f : ℕ → Bool) (n : ℕ) (s : List ℕ) → every f s ≡ every f (take n s) && every f (drop n s)
+every-parts f zero s = refl
+every-parts f (suc n) [] = refl
+every-parts f (suc n) (b ∷ bs) = simp (every-parts f n bs, and-assoc)

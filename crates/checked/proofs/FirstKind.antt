@@ -8,11 +8,12 @@ use lib.ListN.{length}
 use lib.Dec.{eqb}
 use Rattle.base.specs.Bytes.{field}
 use Rattle.base.specs.Tables.{Row, firstGiven}
-use Rattle.base.proofs.Tables.{ByRows}
+use Rattle.base.proofs.Tables.{ByRows, through}
+use Rattle.text.specs.Text.{isBlank}
 use Rattle.digits.specs.Digits.{isDigits, numberOf}
 use Rattle.cdv.specs.Check.{satisfies, isEan13}
-use Rattle.account.specs.declared.Account.the-variants.{Good, Form, CheckDigit}
-use Rattle.account.specs.Account.{own, accountOf}
+use Rattle.account.specs.declared.Account.the-variants.{Good}
+use Rattle.account.specs.Account.{firstEight, lastEight, accountRows, accountOf}
 use Rattle.calendar.specs.Calendar.{isDate, isWithin, isBefore}
 use Rattle.calendar.specs.Workdays.{isDue}
 use Rattle.calendar.specs.DateField.{dateField}
@@ -117,16 +118,15 @@ unfolding bankFound
 bank isListed s =
     must (digitsOf 8 s) kind.NotDigits (must (satisfies s) kind.CheckDigit (must (isListed (numberOf s)) kind.NotListed right)) .is
 
--- account: form (3), check digit (5)
+-- account: form of the first eight (13), form of the last eight (14), check digit over eight (15), check digit over sixteen (16)
 pub account : (s : List ℕ)
     → findingNumber (accountFound (accountOf s))
-    ≡ firstGiven ((3, not (eqb (length s) 16 && isDigits (own s))) ∷ (5, not (satisfies (own s))) ∷ [])
+    ≡ firstGiven
+    ((13, not (eqb (length s) 16))
+    ∷ (13, not (isDigits (firstEight s)))
+    ∷ (14, not (isDigits (lastEight s) || isBlank (lastEight s)))
+    ∷ (15, isBlank (lastEight s) && not (satisfies (firstEight s)))
+    ∷ (16, isDigits (lastEight s) && not (satisfies s))
+    ∷ [])
 unfolding accountOf
-account s = go (eqb (length s) 16) (isDigits (own s)) (satisfies (own s))
-  where
-    go : (l d c : Bool)
-        → findingNumber (accountFound (cond l (cond d (cond c Good CheckDigit) Form) Form)) ≡ firstGiven ((3, not (l && d)) ∷ (5, not c) ∷ [])
-    go true true true = refl
-    go true true false = refl
-    go true false c = refl
-    go false d c = refl
+account s = through (λ a. findingNumber (accountFound a)) Good (accountRows s)

@@ -20,6 +20,7 @@ use Rattle.calendar.specs.declared.DateField.the-variants as inField
 use Rattle.findings.specs.declared.Finding.{Finding}
 use Rattle.findings.specs.declared.Finding.the-variants.{Right, Fault}
 use Rattle.findings.specs.declared.Kind.the-variants.{Form, NotDigits, CheckDigit, NoDate, OutsideDays, NotListed, Other}
+use Rattle.findings.specs.declared.Kind.the-variants.{FormOfFirstEight, FormOfLastEight, CheckDigitOverEight, CheckDigitOverSixteen}
 use Rattle.findings.specs.Findings.{unless}
 use Rattle.fields.specs.Fields.{digitsOf}
 
@@ -74,8 +75,10 @@ unfoldable pub bankFound : (ℕ → Bool) → List ℕ → Finding
 bankFound isListed s =
     unless (digitsOf 8 s) NotDigits (unless (satisfies s) CheckDigit (unless (isListed (numberOf s)) NotListed Right))
 
--- account: its form, then its check digit
+-- account: the form of its halves, then its check digit (02 #102)
 abbrev pub accountFound : Account → Finding
 accountFound account.Good = Right
-accountFound account.Form = Fault Form
-accountFound account.CheckDigit = Fault CheckDigit
+accountFound account.FormOfFirstEight = Fault FormOfFirstEight
+accountFound account.FormOfLastEight = Fault FormOfLastEight
+accountFound account.CheckDigitOverEight = Fault CheckDigitOverEight
+accountFound account.CheckDigitOverSixteen = Fault CheckDigitOverSixteen

@@ -140,14 +140,16 @@ pub fn bank_found(s: &[u8], banks: &[u32]) -> Finding
     }
 }
 
-// An account: its form, then its check digit (01, Digits and dates).
+// An account: the form of its halves, then its check digit (01, Digits and dates; 02 #102).
 pub fn account_found(s: &[u8]) -> Finding
     ensures { λ f. ⌜ f ≡ accountFound (accountOf (now (s .entry))) ⌝ }
 {
     let a = account::read(s);
     match a {
         Account::Good => Finding::Right,
-        Account::Form => Finding::Fault(Kind::Form),
-        Account::CheckDigit => Finding::Fault(Kind::CheckDigit),
+        Account::FormOfFirstEight => Finding::Fault(Kind::FormOfFirstEight),
+        Account::FormOfLastEight => Finding::Fault(Kind::FormOfLastEight),
+        Account::CheckDigitOverEight => Finding::Fault(Kind::CheckDigitOverEight),
+        Account::CheckDigitOverSixteen => Finding::Fault(Kind::CheckDigitOverSixteen),
     }
 }

@@ -6,6 +6,7 @@ use native.Mathlib.Omega.{arith}
 use Rattle.findings.specs.declared.Kind.{Kind}
 use Rattle.findings.specs.declared.Kind.the-variants.{Letter, Mark, Form, NotDigits, CheckDigit, NoDate}
 use Rattle.findings.specs.declared.Kind.the-variants.{OutsideDays, NotListed, Known, BlankOrZero, OutOfOrder, Other}
+use Rattle.findings.specs.declared.Kind.the-variants.{FormOfFirstEight, FormOfLastEight, CheckDigitOverEight, CheckDigitOverSixteen}
 use Rattle.findings.specs.declared.Finding.{Finding}
 use Rattle.findings.specs.declared.Finding.the-variants.{Right, Fault}
 use Rattle.findings.specs.Codes.{Code, Ü, T, always, digitsElse, whole, alone, wholeCode, itemCode, eitherCode}
@@ -15,8 +16,12 @@ of-both : (P : ℕ → Type 0) (c d : ℕ) → P c → P d → (k : Kind) → P 
 of-both P c d p q Letter = q
 of-both P c d p q Mark = q
 of-both P c d p q Form = q
+of-both P c d p q FormOfFirstEight = q
+of-both P c d p q FormOfLastEight = q
 of-both P c d p q NotDigits = p
 of-both P c d p q CheckDigit = q
+of-both P c d p q CheckDigitOverEight = q
+of-both P c d p q CheckDigitOverSixteen = q
 of-both P c d p q NoDate = q
 of-both P c d p q OutsideDays = q
 of-both P c d p q NotListed = q
@@ -30,8 +35,12 @@ by-kind : (h : Code → ℕ) (x y : Code) (k : Kind) → h (digitsElse x y k) �
 by-kind h x y Letter = refl
 by-kind h x y Mark = refl
 by-kind h x y Form = refl
+by-kind h x y FormOfFirstEight = refl
+by-kind h x y FormOfLastEight = refl
 by-kind h x y NotDigits = refl
 by-kind h x y CheckDigit = refl
+by-kind h x y CheckDigitOverEight = refl
+by-kind h x y CheckDigitOverSixteen = refl
 by-kind h x y NoDate = refl
 by-kind h x y OutsideDays = refl
 by-kind h x y NotListed = refl

@@ -3,13 +3,17 @@
 use mathlib.Core.Path.{_≡_, refl, sym, _∙_}
 use mathlib.Core.Bool.{Bool, true, false, false≢true}
 use mathlib.Core.List.{List, [], _∷_}
+use Prim.Native.Nat.{ℕ, zero, suc, _<_}
 use native.Mathlib.Omega.{arith}
+use lib.ListN.{length, getD}
+use lib.Dec.{lit<}
 use borrow.Author.Tests.{ltb-true}
 use Rattle.base.specs.Each.{Each}
 use Rattle.base.proofs.Every.{both}
 use Rattle.findings.specs.declared.Kind.{Kind}
 use Rattle.findings.specs.declared.Kind.the-variants.{Letter, Mark, Form, NotDigits, CheckDigit, NoDate}
 use Rattle.findings.specs.declared.Kind.the-variants.{OutsideDays, NotListed, Known, BlankOrZero, OutOfOrder, Other}
+use Rattle.findings.specs.declared.Kind.the-variants.{FormOfFirstEight, FormOfLastEight, CheckDigitOverEight, CheckDigitOverSixteen}
 use Rattle.findings.specs.declared.Finding.{Finding}
 use Rattle.findings.specs.declared.Finding.the-variants.{Right, Fault}
 use Rattle.findings.specs.Codes.{Code, Ü, T, Rule, whole, wholeCode, firstWhole}
@@ -29,39 +33,30 @@ AllRight = Each (λ r. r .found ≡ Right)
 abbrev pub NoneSpoils : List Rule → Type 0
 NoneSpoils = Each (λ r. spoils (r .code) (r .found) ≡ false)
 
--- a test that is passed for each of the kinds is passed for any
+-- a test that is passed for each of the kinds is passed for any, by its place in the list
 module _ (p : Code → Bool) (c : Kind → Code) where
+  at-place : (ks : List Kind) (i : ℕ) → i < length ks → passesEach p c ks ≡ true → p (c (getD ks i Other)) ≡ true
+  at-place [] i h e = absurd (omega arith)
+  at-place (k ∷ ks) zero h e = both (p (c k)) _ e .0
+  at-place (k ∷ ks) (suc i) h e = at-place ks i (omega arith) (both (p (c k)) _ e .1)
+
   pub for-each : passesEach p c kinds ≡ true → (k : Kind) → p (c k) ≡ true
-  for-each e k =
-      let l = both (p (c Letter)) _ e in
-      let m = both (p (c Mark)) _ (l .1) in
-      let f = both (p (c Form)) _ (m .1) in
-      let n = both (p (c NotDigits)) _ (f .1) in
-      let d = both (p (c CheckDigit)) _ (n .1) in
-      let o = both (p (c NoDate)) _ (d .1) in
-      let u = both (p (c OutsideDays)) _ (o .1) in
-      let i = both (p (c NotListed)) _ (u .1) in
-      let w = both (p (c Known)) _ (i .1) in
-      let b = both (p (c BlankOrZero)) _ (w .1) in
-      let r = both (p (c OutOfOrder)) _ (b .1) in
-      let z = both (p (c Other)) _ (r .1) in
-      go (l .0) (m .0) (f .0) (n .0) (d .0) (o .0) (u .0) (i .0) (w .0) (b .0) (r .0) (z .0) k
-    where
-      go : p (c Letter) ≡ true → p (c Mark) ≡ true → p (c Form) ≡ true → p (c NotDigits) ≡ true → p (c CheckDigit) ≡ true
-          → p (c NoDate) ≡ true → p (c OutsideDays) ≡ true → p (c NotListed) ≡ true → p (c Known) ≡ true → p (c BlankOrZero) ≡ true
-          → p (c OutOfOrder) ≡ true → p (c Other) ≡ true → (k : Kind) → p (c k) ≡ true
-      go l m f n d o u i w b r z Letter = l
-      go l m f n d o u i w b r z Mark = m
-      go l m f n d o u i w b r z Form = f
-      go l m f n d o u i w b r z NotDigits = n
-      go l m f n d o u i w b r z CheckDigit = d
-      go l m f n d o u i w b r z NoDate = o
-      go l m f n d o u i w b r z OutsideDays = u
-      go l m f n d o u i w b r z NotListed = i
-      go l m f n d o u i w b r z Known = w
-      go l m f n d o u i w b r z BlankOrZero = b
-      go l m f n d o u i w b r z OutOfOrder = r
-      go l m f n d o u i w b r z Other = z
+  for-each e Letter = at-place kinds 0 (lit< tt) e
+  for-each e Mark = at-place kinds 1 (lit< tt) e
+  for-each e Form = at-place kinds 2 (lit< tt) e
+  for-each e FormOfFirstEight = at-place kinds 3 (lit< tt) e
+  for-each e FormOfLastEight = at-place kinds 4 (lit< tt) e
+  for-each e NotDigits = at-place kinds 5 (lit< tt) e
+  for-each e CheckDigit = at-place kinds 6 (lit< tt) e
+  for-each e CheckDigitOverEight = at-place kinds 7 (lit< tt) e
+  for-each e CheckDigitOverSixteen = at-place kinds 8 (lit< tt) e
+  for-each e NoDate = at-place kinds 9 (lit< tt) e
+  for-each e OutsideDays = at-place kinds 10 (lit< tt) e
+  for-each e NotListed = at-place kinds 11 (lit< tt) e
+  for-each e Known = at-place kinds 12 (lit< tt) e
+  for-each e BlankOrZero = at-place kinds 13 (lit< tt) e
+  for-each e OutOfOrder = at-place kinds 14 (lit< tt) e
+  for-each e Other = at-place kinds 15 (lit< tt) e
 
 -- a code that isn't 0 is 0 for the whole message only where it is an item's alone
 not-whole : (x : Code) → isCode x ≡ true → whole x ≡ 0 → isWhole x ≡ false

@@ -3,3 +3,4 @@ pub mod ByKind
 pub mod Naming
 pub mod Faults
 pub mod Small
+pub mod Before

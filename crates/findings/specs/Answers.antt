@@ -1,4 +1,4 @@
--- What 01 calls each answer: the number of a refusal, the field that is named, and the kind of its fault in 01's order; each in words.
+-- What 01 calls each answer: the number of a refusal, the field that is named, and the kind of its fault; each in words.
 -- Assumes nothing.
 use Prim.Native.Nat.{ℕ}
 use mathlib.Core.List.{List, [], _∷_}
@@ -73,13 +73,18 @@ fieldWords =
 abbrev pub answerField : Answer → List ℕ
 answerField a = getD fieldWords (fieldNumber a) []
 
--- the words for the kinds of fault by their numbers, none for 0 (01, Calls and their answers); the last is the one condition that only docs/ has
+-- the words for the kinds of fault by their numbers, none for 0 (01, Calls and their answers; 02 #102); the twelfth is the one condition that only
+-- docs/ has, the last four tell a clerk which characters of an account to retype
 unfoldable pub kindWords : List (List ℕ)
 kindWords =
     []
     ∷ ascii "a letter that text may not hold" ∷ ascii "not the right mark" ∷ ascii "wrong form" ∷ ascii "not digits"
     ∷ ascii "check digit" ∷ ascii "no date" ∷ ascii "outside the days" ∷ ascii "not listed" ∷ ascii "already known"
     ∷ ascii "blank or zero" ∷ ascii "out of order" ∷ ascii "more than ten days after the date"
+    ∷ ascii "wrong form in the first eight, retype the eight characters after the bank"
+    ∷ ascii "wrong form in the last eight, retype the last eight characters"
+    ∷ ascii "check digit over eight, retype the eight characters after the bank"
+    ∷ ascii "check digit over sixteen, retype the sixteen characters after the bank"
     ∷ []
 
 -- a kind of fault, in words

@@ -7,6 +7,7 @@ use Rattle.frame.specs.Verdict.{first}
 use Rattle.findings.specs.declared.Kind.{Kind}
 use Rattle.findings.specs.declared.Kind.the-variants.{Letter, Mark, Form, NotDigits, CheckDigit, NoDate}
 use Rattle.findings.specs.declared.Kind.the-variants.{OutsideDays, NotListed, Known, BlankOrZero, OutOfOrder, Other}
+use Rattle.findings.specs.declared.Kind.the-variants.{FormOfFirstEight, FormOfLastEight, CheckDigitOverEight, CheckDigitOverSixteen}
 use Rattle.findings.specs.declared.Finding.{Finding}
 use Rattle.findings.specs.declared.Finding.the-variants.{Right, Fault}
 use Rattle.findings.specs.declared.Answer.{Answer}
@@ -34,8 +35,12 @@ abbrev pub digitsElse : {A : Type 0} → A → A → Kind → A
 digitsElse c d Letter = d
 digitsElse c d Mark = d
 digitsElse c d Form = d
+digitsElse c d FormOfFirstEight = d
+digitsElse c d FormOfLastEight = d
 digitsElse c d NotDigits = c
 digitsElse c d CheckDigit = d
+digitsElse c d CheckDigitOverEight = d
+digitsElse c d CheckDigitOverSixteen = d
 digitsElse c d NoDate = d
 digitsElse c d OutsideDays = d
 digitsElse c d NotListed = d

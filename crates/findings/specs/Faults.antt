@@ -6,6 +6,7 @@ use lib.Dec.{ltb}
 use Rattle.findings.specs.declared.Kind.{Kind}
 use Rattle.findings.specs.declared.Kind.the-variants.{Letter, Mark, Form, NotDigits, CheckDigit, NoDate}
 use Rattle.findings.specs.declared.Kind.the-variants.{OutsideDays, NotListed, Known, BlankOrZero, OutOfOrder, Other}
+use Rattle.findings.specs.declared.Kind.the-variants.{FormOfFirstEight, FormOfLastEight, CheckDigitOverEight, CheckDigitOverSixteen}
 use Rattle.findings.specs.Codes.{Code, Ü, T, Rule}
 
 -- a code of the whole message
@@ -23,14 +24,18 @@ abbrev pub isShort : Code → Bool
 isShort (Ü n) = ltb n 100
 isShort (T n) = ltb n 100
 
--- the kinds of fault, in 01's order
+-- the kinds of fault, in 01's order as 02 #102 amends it
 abbrev pub kinds : List Kind
 kinds =
     Letter
     ∷ Mark
     ∷ Form
+    ∷ FormOfFirstEight
+    ∷ FormOfLastEight
     ∷ NotDigits
     ∷ CheckDigit
+    ∷ CheckDigitOverEight
+    ∷ CheckDigitOverSixteen
     ∷ NoDate
     ∷ OutsideDays
     ∷ NotListed

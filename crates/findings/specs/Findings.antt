@@ -1,10 +1,11 @@
--- What a test of a field finds, and the number of each kind of fault in 01's order (01, Calls and their answers).
+-- What a test of a field finds, and the number of each kind of fault (01, Calls and their answers; 02 #102).
 -- Assumes nothing.
 use Prim.Native.Nat.{ℕ}
 use mathlib.Core.Bool.{Bool, true, false}
 use Rattle.findings.specs.declared.Kind.{Kind}
 use Rattle.findings.specs.declared.Kind.the-variants.{Letter, Mark, Form, NotDigits, CheckDigit, NoDate}
 use Rattle.findings.specs.declared.Kind.the-variants.{OutsideDays, NotListed, Known, BlankOrZero, OutOfOrder, Other}
+use Rattle.findings.specs.declared.Kind.the-variants.{FormOfFirstEight, FormOfLastEight, CheckDigitOverEight, CheckDigitOverSixteen}
 use Rattle.findings.specs.declared.Finding.{Finding}
 use Rattle.findings.specs.declared.Finding.the-variants.{Right, Fault}
 
@@ -13,7 +14,7 @@ abbrev pub unless : Bool → Kind → Finding → Finding
 unless true k f = f
 unless false k f = Fault k
 
--- the kinds of fault, in the order of 01's list
+-- the number of a kind: its place in 01's list, and then those of 02 #102, so that the first twelve stay
 abbrev pub kindNumber : Kind → ℕ
 kindNumber Letter = 1
 kindNumber Mark = 2
@@ -27,6 +28,10 @@ kindNumber Known = 9
 kindNumber BlankOrZero = 10
 kindNumber OutOfOrder = 11
 kindNumber Other = 12
+kindNumber FormOfFirstEight = 13
+kindNumber FormOfLastEight = 14
+kindNumber CheckDigitOverEight = 15
+kindNumber CheckDigitOverSixteen = 16
 
 -- the number of what is found: 0 for nothing wrong, else that of the kind
 abbrev pub findingNumber : Finding → ℕ

@@ -3,3 +3,4 @@ pub mod Codes
 pub mod Naming
 pub mod Answers
 pub mod Faults
+pub mod Before

@@ -5,13 +5,17 @@ ghost use Rattle.frame.specs.Machine.{earlier};
 ghost use Rattle.findings.specs.Findings.{unless, kindNumber};
 ghost use Rattle.findings.specs.Codes.{Ü, always, wholeCode, eitherCode};
 
-// The kinds of fault, in 01's order.
+// The kinds of fault, in 01's order as 02 #102 amends it: four are an account's alone.
 pub enum Kind {
     Letter,
     Mark,
     Form,
+    FormOfFirstEight,
+    FormOfLastEight,
     NotDigits,
     CheckDigit,
+    CheckDigitOverEight,
+    CheckDigitOverSixteen,
     NoDate,
     OutsideDays,
     NotListed,
@@ -92,7 +96,7 @@ pub fn ranked_else(f: Finding, digits: u8, other: u8, later: u8) -> u8
     }
 }
 
-// The number of a kind, in 01's order.
+// The number of a kind: its place in 01's list, and then those of 02 #102.
 pub fn kind_number(k: Kind) -> u8
     ensures { λ r. ⌜ r ≡ kindNumber k ⌝ }
 {
@@ -109,5 +113,9 @@ pub fn kind_number(k: Kind) -> u8
         Kind::BlankOrZero => 10,
         Kind::OutOfOrder => 11,
         Kind::Other => 12,
+        Kind::FormOfFirstEight => 13,
+        Kind::FormOfLastEight => 14,
+        Kind::CheckDigitOverEight => 15,
+        Kind::CheckDigitOverSixteen => 16,
     }
 }

@@ -5,3 +5,4 @@ pub mod Instance
 pub mod Faultless
 pub mod Listed
 pub mod Own
+pub mod Before

@@ -3,7 +3,7 @@
 -- Assumes nothing.
 use Prim.Native.Nat.{ℕ}
 use mathlib.Core.Bool.{Bool, false, cond, not}
-use mathlib.Core.List.{List, [], _∷_}
+use mathlib.Core.List.{List, [], _∷_, map}
 use lib.ListN.{length}
 use lib.Dec.{eqb}
 use Rattle.base.specs.Bytes.{field}
@@ -15,6 +15,7 @@ use Rattle.frame.specs.declared.Found.{Found}
 use Rattle.frame.specs.Records.{lengths}
 use Rattle.frame.specs.Verdict.{Rules, first}
 use Rattle.findings.specs.Codes.{Rule, firstWhole, firstAlone}
+use Rattle.findings.specs.Before.{ruleBefore}
 use Rattle.fields.specs.Fields.{totalCode}
 use Rattle.lent.specs.Lent.{Lent}
 use Rattle.kinds.specs.Kinds.{kindOf, tables}
@@ -30,21 +31,28 @@ itemRules kind e isListed k r = tables kind e isListed .item k r
 unfoldable pub headLetter : List ℕ → Bool
 headLetter r = cond (eqb (length r) (lengths .head)) (not (isText (field 70 174 r))) false
 
-unfoldable pub headCode : ℕ → (ℕ → Bool) → List ℕ → List ℕ → ℕ
-headCode e isListed known r = cond (eqb (length r) (lengths .head)) (firstWhole (headRules e isListed known r)) 26
+-- the code of a head, by its rules
+abbrev pub headCodeBy : List Rule → List ℕ → ℕ
+headCodeBy rs r = cond (eqb (length r) (lengths .head)) (firstWhole rs) 26
 
--- text is item 51-249; an amount that isn't ten digits counts as 0; bytes of another length are a break
-unfoldable pub itemFound : ℕ → ℕ → (ℕ → Bool) → ℕ → List ℕ → Found
-itemFound kind e isListed k r =
+unfoldable pub headCode : ℕ → (ℕ → Bool) → List ℕ → List ℕ → ℕ
+headCode e isListed known r = headCodeBy (headRules e isListed known r) r
+
+-- an item, by its rules: text is item 51-249; an amount that isn't ten digits counts as 0; bytes of another length are a break
+abbrev pub itemFoundBy : List Rule → List ℕ → Found
+itemFoundBy rs r =
     cond (eqb (length r) (lengths .item))
     (record {
       letter = not (isText (field 51 249 r));
-      fault = firstWhole (itemRules kind e isListed k r);
-      code = firstAlone (itemRules kind e isListed k r);
+      fault = firstWhole rs;
+      code = firstAlone rs;
       amount = numberOf (field 17 26 r);
       zero = isZeroAccount (field 35 50 r);
     })
     (record { letter = false; fault = 26; code = 0; amount = 0; zero = false })
+
+unfoldable pub itemFound : ℕ → ℕ → (ℕ → Bool) → ℕ → List ℕ → Found
+itemFound kind e isListed k r = itemFoundBy (itemRules kind e isListed k r) r
 
 -- 1.2.1 and 2.2.1: the count is six digits and the items' number, the sum sixteen digits and theirs; bytes of another length are a break
 unfoldable pub footCode : ℕ → ℕ → List ℕ → ℕ
@@ -53,31 +61,34 @@ footCode count sum r =
     (first (totalCode 6 count 18 (field 3 8 r) ∷ totalCode 16 sum 19 (field 9 24 r) ∷ []))
     26
 
--- the rules of a message, with E, which banks are listed, and the known list; its head tells the items its kind
-abbrev pub rulesBy : ℕ → (ℕ → Bool) → List ℕ → Rules
-rulesBy e isListed known =
+-- rules by what a head tells its items, the code of a head, and what is found in an item; text and foot are the same in all
+abbrev pub rulesWith : (List ℕ → ℕ) → (List ℕ → ℕ) → (ℕ → ℕ → List ℕ → Found) → Rules
+rulesWith tells code item =
     record {
-      tells = kindOf;
+      tells = tells;
       headLetter = headLetter;
-      headCode = headCode e isListed known;
-      item = λ kind k r. itemFound kind e isListed k r;
+      headCode = code;
+      item = item;
       footCode = footCode;
       footCount = λ r. numberOf (field 3 8 r);
       footSum = λ r. numberOf (field 9 24 r);
     }
 
+-- the rules of a message, with E, which banks are listed, and the known list; its head tells the items its kind
+abbrev pub rulesBy : ℕ → (ℕ → Bool) → List ℕ → Rules
+rulesBy e isListed known = rulesWith kindOf (headCode e isListed known) (λ kind k r. itemFound kind e isListed k r)
+
 -- the rules of one kind alone, whatever a head tells
 abbrev pub rulesOfKind : ℕ → ℕ → (ℕ → Bool) → List ℕ → Rules
 rulesOfKind kind e isListed known =
-    record {
-      tells = λ r. kind;
-      headLetter = headLetter;
-      headCode = λ r. cond (eqb (length r) (lengths .head)) (firstWhole (tables kind e isListed .head known r)) 26;
-      item = λ told k r. itemFound kind e isListed k r;
-      footCode = footCode;
-      footCount = λ r. numberOf (field 3 8 r);
-      footSum = λ r. numberOf (field 9 24 r);
-    }
+    rulesWith (λ r. kind) (λ r. headCodeBy (tables kind e isListed .head known r) r) (λ told k r. itemFound kind e isListed k r)
+
+-- the rules of a message by 01's kinds of fault, the finer ones of 02 #102 taken for those that they came from
+abbrev pub rulesBefore : ℕ → (ℕ → Bool) → List ℕ → Rules
+rulesBefore e isListed known =
+    rulesWith kindOf
+    (λ r. headCodeBy (map ruleBefore (headRules e isListed known r)) r)
+    (λ kind k r. itemFoundBy (map ruleBefore (itemRules kind e isListed k r)) r)
 
 -- for what is lent, as the search by halves finds a bank
 abbrev pub rules : Lent → Rules

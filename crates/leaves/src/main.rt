@@ -20,8 +20,10 @@ fn account(s: &[u8]) {
     put_next(
         match account::read(s) {
             account::Account::Good => 0,
-            account::Account::Form => 1,
-            account::Account::CheckDigit => 2,
+            account::Account::FormOfFirstEight => 1,
+            account::Account::FormOfLastEight => 2,
+            account::Account::CheckDigitOverEight => 3,
+            account::Account::CheckDigitOverSixteen => 4,
         },
     );
     put_flag(account::is_zero(s));

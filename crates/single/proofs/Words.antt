@@ -26,8 +26,12 @@ kind-small : (k : Kind) → kindNumber k < 100
 kind-small kind.Letter = lit< tt
 kind-small kind.Mark = lit< tt
 kind-small kind.Form = lit< tt
+kind-small kind.FormOfFirstEight = lit< tt
+kind-small kind.FormOfLastEight = lit< tt
 kind-small kind.NotDigits = lit< tt
 kind-small kind.CheckDigit = lit< tt
+kind-small kind.CheckDigitOverEight = lit< tt
+kind-small kind.CheckDigitOverSixteen = lit< tt
 kind-small kind.NoDate = lit< tt
 kind-small kind.OutsideDays = lit< tt
 kind-small kind.NotListed = lit< tt

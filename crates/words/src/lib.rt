@@ -120,6 +120,10 @@ already known
 blank or zero
 out of order
 more than ten days after the date
+wrong form in the first eight, retype the eight characters after the bank
+wrong form in the last eight, retype the last eight characters
+check digit over eight, retype the eight characters after the bank
+check digit over sixteen, retype the sixteen characters after the bank
 ",
         number,
     )

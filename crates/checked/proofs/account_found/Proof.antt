@@ -18,6 +18,12 @@ enum-told-2 c = search needs
 enum-told-3 : tie.Need-enum-told-3
 enum-told-3 c = search needs
 
+enum-told-4 : tie.Need-enum-told-4
+enum-told-4 c = search needs
+
+enum-told-5 : tie.Need-enum-told-5
+enum-told-5 c = search needs
+
 returns : tie.Need-returns
 returns c = ap accountFound (sym (c .enum-told .given .1) ∙ c .before .before .read .ensures)
 
@@ -27,7 +33,24 @@ returns-2 c = ap accountFound (sym (c .enum-told2 .given .1) ∙ c .before .befo
 returns-3 : tie.Need-returns-3
 returns-3 c = ap accountFound (sym (c .enum-told3 .given .1) ∙ c .before .before .read .ensures)
 
+returns-4 : tie.Need-returns-4
+returns-4 c = ap accountFound (sym (c .enum-told4 .given .1) ∙ c .before .before .read .ensures)
+
+returns-5 : tie.Need-returns-5
+returns-5 c = ap accountFound (sym (c .enum-told5 .given .1) ∙ c .before .before .read .ensures)
+
 pub account-found-spec : {M : Type 1} → statement M
 account-found-spec =
     tie.close
-    (tie.spec read-requires enum-told enum-told-2 enum-told-3 returns returns-2 returns-3)
+    (tie.spec
+    read-requires
+    enum-told
+    enum-told-2
+    enum-told-3
+    enum-told-4
+    enum-told-5
+    returns
+    returns-2
+    returns-3
+    returns-4
+    returns-5)

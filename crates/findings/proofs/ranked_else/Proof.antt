@@ -9,6 +9,7 @@ use Rattle.frame.specs.Machine.{earlier}
 use Rattle.findings.specs.declared.Kind.{Kind}
 use Rattle.findings.specs.declared.Kind.the-variants.{Letter, Mark, Form, NotDigits, CheckDigit, NoDate}
 use Rattle.findings.specs.declared.Kind.the-variants.{OutsideDays, NotListed, Known, BlankOrZero, OutOfOrder, Other}
+use Rattle.findings.specs.declared.Kind.the-variants.{FormOfFirstEight, FormOfLastEight, CheckDigitOverEight, CheckDigitOverSixteen}
 use Rattle.findings.specs.declared.Finding.{Finding}
 use Rattle.findings.specs.declared.Finding.the-variants.{Right, Fault}
 use Rattle.findings.proofs.Kind.{the-type}
@@ -19,14 +20,18 @@ use Rattle.findings.proofs.ranked_else.Tie as tie
 
 -- the other kinds, by their numbers
 abbrev others : List ℕ
-others = 0 ∷ 1 ∷ 2 ∷ 4 ∷ 5 ∷ 6 ∷ 7 ∷ 8 ∷ 9 ∷ 10 ∷ 11 ∷ []
+others = 0 ∷ 1 ∷ 2 ∷ 3 ∷ 4 ∷ 6 ∷ 7 ∷ 8 ∷ 9 ∷ 10 ∷ 11 ∷ 12 ∷ 13 ∷ 14 ∷ 15 ∷ []
 
 other : (c d : ℕ) (k : Kind) → OneOf others (tagOf the-type k) → d ≡ digitsElse c d k
 other c d Letter h = refl
 other c d Mark h = refl
 other c d Form h = refl
-other c d NotDigits h = absurd (miss others 3 tt h)
+other c d FormOfFirstEight h = refl
+other c d FormOfLastEight h = refl
+other c d NotDigits h = absurd (miss others 5 tt h)
 other c d CheckDigit h = refl
+other c d CheckDigitOverEight h = refl
+other c d CheckDigitOverSixteen h = refl
 other c d NoDate h = refl
 other c d OutsideDays h = refl
 other c d NotListed h = refl
