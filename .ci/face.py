@@ -12,7 +12,7 @@ from pathlib import Path
 ROOT = Path(__file__).resolve().parent.parent
 
 # Names that differ in the header: of refusals, and of arguments.
-REFUSALS = {"NotADay": "DAY", "BankList": "BANKS", "KnownList": "KNOWN"}
+REFUSALS = {"NotADay": "DAY", "BankList": "BANKS", "KnownList": "KNOWN", "RequestList": "REQUESTS", "Fedjel": "NOT_FEDJEL"}
 ARGUMENTS = {("nsh_single", "x"): "record"}
 
 # The buffers whose size a call looks at.
@@ -27,6 +27,8 @@ SIZES = {
     ("nsh_reply", "numbers"): "NSH_REPLY_NUMBERS",
     ("nsh_read_status", "numbers"): "NSH_STATUS_NUMBERS",
     ("nsh_read_status", "id"): "NSH_ID_BYTES",
+    ("nsh_fedjel", "numbers"): "NSH_FEDJEL_NUMBERS",
+    ("nsh_fedsta", "id"): "NSH_ID_BYTES",
 }
 
 # What is measured, and stands in no code.

@@ -1,11 +1,12 @@
 /* Measures the stack that each call takes, on real messages, and sees that the calls agree about them.
 
-       stack FILE ..
+       stack FEDJEL REQUESTS FILE ..
 
-   Each FILE is a message of either kind for the day and the banks of samples/, of under 65,536 bytes, whose head and first item are right.
-   A call runs on a stack of its own that is painted beforehand: as deep as the paint is gone, so much did the call take, with the few bytes
-   of the functions that make it. The most of each call over all files is printed. Exit status 1, with a line on standard error, where a
-   call gives another answer than it should or takes more stack than the header says; 2 where no file is named or one can't be read. */
+   Each FILE is a message of either kind for the day and the banks of samples/, whose head and first item are right. FEDJEL has code 00 by
+   the requests in REQUESTS, on the same day. Each has under 65,536 bytes. A call runs on a stack of its own that is painted beforehand: as
+   deep as the paint is gone, so much did the call take, with the few bytes of the functions that make it. The most of each call over all
+   files is printed. Exit status 1, with a line on standard error, where a call gives another answer than it should or takes more stack than
+   the header says; 2 where a file isn't named or can't be read. */
 #define _XOPEN_SOURCE 700
 #include <stdio.h>
 #include <stdlib.h>
@@ -19,19 +20,24 @@
 #define TIME 83000
 #define HEAD 174
 #define ITEM 249
+#define COUNT 3
+#define REQUEST 65
+#define FEDJEL_HEAD 34
+#define FEDJEL_ITEM 72
 #define BANKS 4096
 #define PAINT 0xA5
 
-enum { OPEN, PIECE, CLOSE, JUDGE, SINGLE, REPLY, READ, CALLS };
+enum { OPEN, PIECE, CLOSE, JUDGE, SINGLE, REPLY, READ, FEDJEL, FEDSTA, CALLS };
 
 /* What the calls are lent. */
 static uint8_t message[65536], session[NSH_SESSION_BYTES], table[NSH_TABLE_MOST], out[65536], id[NSH_ID_BYTES], other_id[NSH_ID_BYTES];
-static uint8_t known[1000 * NSH_ID_BYTES];
+static uint8_t known[1000 * NSH_ID_BYTES], requests[65536];
 static uint32_t banks[BANKS];
 static uint64_t closed[NSH_CLOSING_NUMBERS], judged[NSH_CLOSING_NUMBERS], replied[NSH_REPLY_NUMBERS], status[NSH_STATUS_NUMBERS];
-static size_t message_len;
+static uint64_t covered[NSH_FEDJEL_NUMBERS];
+static size_t message_len, requests_len;
 
-/* A piece, or a single record, its place and its message's kind. */
+/* A piece, a request, or a single record, its place and its message's kind. */
 static const uint8_t *part;
 static size_t part_len;
 static uint32_t place, kind;
@@ -43,7 +49,8 @@ static int call;
 static uint32_t answer;
 static size_t most[CALLS];
 
-static const char *const names[CALLS] = { "nsh_open", "nsh_piece", "nsh_close", "nsh_judge", "nsh_single", "nsh_reply", "nsh_read_status" };
+static const char *const names[CALLS] = { "nsh_open",  "nsh_piece",       "nsh_close",  "nsh_judge", "nsh_single",
+                                          "nsh_reply", "nsh_read_status", "nsh_fedjel", "nsh_fedsta" };
 
 /* What the call answers. */
 static uint32_t called(void)
@@ -63,8 +70,12 @@ static uint32_t called(void)
     case REPLY:
         return nsh_reply(message, message_len, DAY, banks, BANKS, known, sizeof known, '0', NUMBER, TIME, out, sizeof out, replied,
                          NSH_REPLY_NUMBERS);
-    default:
+    case READ:
         return nsh_read_status(out, (size_t)replied[0], table, sizeof table, status, NSH_STATUS_NUMBERS, other_id, sizeof other_id);
+    case FEDJEL:
+        return nsh_fedjel(message, message_len, DAY, requests, requests_len, table, sizeof table, covered, NSH_FEDJEL_NUMBERS);
+    default:
+        return nsh_fedsta(message, message_len, DAY, requests, requests_len, part, NSH_ID_BYTES, 1, '0', NUMBER, TIME, COUNT, out, sizeof out);
     }
 }
 
@@ -130,7 +141,7 @@ static void judge_singly(size_t from, size_t len, uint32_t k, uint32_t right)
     make(SINGLE, right);
 }
 
-/* The message by all seven calls. */
+/* The message by the first seven calls. */
 static void judge_all_ways(void)
 {
     judge_by_pieces(1);
@@ -146,6 +157,40 @@ static void judge_all_ways(void)
     hold(memcmp(other_id, id, sizeof id) == 0 && status[0] == '0' && status[1] == DAY && status[2] == NUMBER && status[3] == TIME &&
              status[4] == closed[0] && memcmp(status + 5, closed + 1, 4 * sizeof closed[0]) == 0,
          "nsh_read_status beside nsh_close");
+}
+
+/* Whether an item with code 0 has the identifier. */
+static int stands(const uint8_t *request)
+{
+    for (size_t k = 0; k < covered[1]; k++)
+        if (table[k] == 0 && memcmp(message + FEDJEL_HEAD + FEDJEL_ITEM * k + 2, request, NSH_ID_BYTES) == 0)
+            return 1;
+    return 0;
+}
+
+/* The FEDJEL, and a FEDSTA for each request: refused with 13 exactly where no answer stands. */
+static void judge_cover(void)
+{
+    make(FEDJEL, NSH_DONE);
+    hold(covered[0] == 0, "nsh_fedjel's code");
+    for (part = requests; part < requests + requests_len; part += REQUEST) {
+        make(FEDSTA, stands(part) ? NSH_DONE : NSH_STANDING);
+        hold(answer != NSH_DONE || memcmp(out + 9, part, NSH_ID_BYTES) == 0, "nsh_fedsta's identifier");
+    }
+}
+
+/* The file's bytes go to space of 65,536; how many they are. */
+static size_t read_whole(const char *name, uint8_t *space)
+{
+    FILE *in = fopen(name, "rb");
+    size_t got = in == NULL ? 0 : fread(space, 1, 65536, in);
+
+    if (in == NULL || !feof(in)) {
+        fprintf(stderr, "stack: %s can't be read whole\n", name);
+        exit(2);
+    }
+    fclose(in);
+    return got;
 }
 
 /* What each call took is printed and held to the header's bound. */
@@ -169,22 +214,18 @@ int main(int argc, char **argv)
 {
     static const uint32_t own[] = { 12345676, 16000009, 61000009 };
 
-    if (argc < 2) {
-        fprintf(stderr, "stack FILE ..\n");
+    if (argc < 4) {
+        fprintf(stderr, "stack FEDJEL REQUESTS FILE ..\n");
         return 2;
     }
     for (uint32_t i = 0; i < BANKS; i++)
         banks[i] = i < BANKS - 3 ? i : own[i - (BANKS - 3)];
-    for (int i = 1; i < argc; i++) {
-        FILE *in = fopen(argv[i], "rb");
-
-        message_len = in == NULL ? 0 : fread(message, 1, sizeof message, in);
-        if (in == NULL || !feof(in)) {
-            fprintf(stderr, "stack: %s can't be read whole\n", argv[i]);
-            return 2;
-        }
-        fclose(in);
+    for (int i = 3; i < argc; i++) {
+        message_len = read_whole(argv[i], message);
         judge_all_ways();
     }
+    message_len = read_whole(argv[1], message);
+    requests_len = read_whole(argv[2], requests);
+    judge_cover();
     return told();
 }

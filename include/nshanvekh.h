@@ -1,4 +1,4 @@
-/* Nshanvekh: the judge of ATUTAL and BESZED messages, for hosts in C.
+/* Nshanvekh: the judge of ATUTAL and BESZED messages, and of banks' cover answers (FEDJEL), for hosts in C.
 
    Link libnshanvekh.a (`rt staticlib nshanvekh`). The library has no memory of its own, no heap and no input or output: all that it
    reads and writes is lent for the length of a call. Of C's library it uses memcpy and memset.
@@ -24,9 +24,10 @@ extern "C" {
 #define NSH_CLOSING_NUMBERS 7  /* numbers of nsh_close and nsh_judge: uint64_t */
 #define NSH_REPLY_NUMBERS 1    /* numbers of nsh_reply: uint64_t */
 #define NSH_STATUS_NUMBERS 10  /* numbers of nsh_read_status: uint64_t */
+#define NSH_FEDJEL_NUMBERS 2   /* numbers of nsh_fedjel: uint64_t */
 #define NSH_ID_BYTES 25        /* id: uint8_t */
 
-/* The most bytes of a code table, one for each item. */
+/* The most bytes of a code table, one for each item; nsh_read_status and nsh_fedjel take a table of any length. */
 #define NSH_TABLE_MOST 10000
 
 /* The bytes of stack to leave for a call; a third of them is enough for all but nsh_reply, which keeps 10,000 codes there. This is
@@ -44,9 +45,12 @@ extern "C" {
 #define NSH_SESSION 5      /* the session was closed, never opened, or its bytes are those of none */
 #define NSH_OVERFLOW 6     /* more items than the table has bytes, or in a reply than 10,000, before any break */
 #define NSH_ADDRESS 7      /* the message has under 34 bytes, or its positions 10-34 hold a byte outside 20h-7Eh */
-#define NSH_PARTICULARS 8  /* duplicate code not '0' or '@', number over 9999, or time not 000000 to 235959 */
-#define NSH_ROOM 9         /* the output is shorter than the reply, or the table than the references */
+#define NSH_PARTICULARS 8  /* duplicate code not '0' or '@', number over 9999, time not 000000 to 235959, or in a FEDSTA count over 999,999 */
+#define NSH_ROOM 9         /* the output is shorter than the reply or the FEDSTA, or the table than the references or a FEDJEL's items */
 #define NSH_MALFORMED 10   /* the bytes aren't a STATUS message; a single record isn't 174 or 249 bytes */
+#define NSH_REQUESTS 11    /* the requests aren't of 65 bytes each, a sum isn't digits, or an identifier comes twice */
+#define NSH_NOT_FEDJEL 12  /* the message's lengths or endings aren't a FEDJEL's */
+#define NSH_STANDING 13    /* no such request, no standing answer to it, or answer 1 and a bank without cover */
 #define NSH_SIZE 99        /* a session, numbers or id buffer has another size than above */
 
 /* Kinds of message. A message whose head, 174 bytes with its right ending, has BESZED in its positions 3-8 is BESZED; any other is
@@ -139,6 +143,24 @@ uint32_t nsh_reply(const uint8_t *message, size_t message_len, uint32_t day, con
    refused sum, references. id: positions 10-34. */
 uint32_t nsh_read_status(const uint8_t *bytes, size_t bytes_len, uint8_t *table, size_t table_len, uint64_t *numbers, size_t numbers_len,
                          uint8_t *id, size_t id_len);
+
+/* Cover answers. requests is the list of the day's cover requests, end to end without endings, in any order: identifier (25 bytes), account
+   (24), sum (16 digits). An item of the FEDJEL answers a request rightly when it has all three and its type and answer go together: 02 and
+   1, or 03 and 0, 9 or 5. The first that does stands, where the message code is 0; a request has no other standing answer. */
+
+/* A FEDJEL is judged, whole: refusals 99, 1, 11, 12, 9. numbers: message code, items. The k-th item's code goes to byte k of the table
+   with every message code: 0 for the first right answer to a request, 75 for any later answer to it, 74 for an unknown identifier, else
+   71, 89 or 76. The table may have any length of at least the items; bytes after theirs stay. */
+uint32_t nsh_fedjel(const uint8_t *message, size_t message_len, uint32_t day, const uint8_t *requests, size_t requests_len, uint8_t *table,
+                    size_t table_len, uint64_t *numbers, size_t numbers_len);
+
+/* The FEDSTA of the request with this identifier goes to the front of out, 104 bytes, from its standing answer in the FEDJEL, which is judged
+   anew: refusals 99, 1, 11, 12, 13, 8, 9. Bytes of out beyond it stay. Answer 1 gives state 00, 0 gives 98, 9 gives 97, 5 gives 50. cover is 1
+   where the bank itself has cover; any other value is no, and refuses a request whose standing answer is 1. duplicate is '0' or '@', number
+   the FEDSTA's, time hhmmss, count the accepted items of the order. Only for the request of an ATUTAL: a request doesn't tell it from a PKUTAL's. */
+uint32_t nsh_fedsta(const uint8_t *message, size_t message_len, uint32_t day, const uint8_t *requests, size_t requests_len, const uint8_t *id,
+                    size_t id_len, uint8_t cover, uint8_t duplicate, uint32_t number, uint32_t time, uint32_t count, uint8_t *out,
+                    size_t out_len);
 
 #ifdef __cplusplus
 }

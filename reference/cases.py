@@ -6,8 +6,9 @@ Prints the script that trial.py describes, the same each time: chance comes from
 a seed. Values and places are from documents 01 and 02, docs/CODES.md and, for a
 session's bytes, docs/SESSION.md. Each case changes a base text a little: a good
 message of 1 to 5 items, a good head or item, or a right STATUS; first of ATUTAL, then
-of BESZED. The file `written` beside this one follows, cases written by hand; there the
-base text is a message of one item in
+of BESZED. Those of cover answers change a list of requests and a FEDJEL, of 1 to 6 items
+and some of thousands. The file `written` beside this one follows, cases written by hand;
+there the base text is a message of one item in
 
     h   the line s of its head, and the line j of the message, both with these changes;
         the head alone comes with the number of the kind that the base isn't
@@ -674,7 +675,7 @@ WRONG_SIZES = (b"011", b"211", b"101", b"121", b"110", b"112")
 
 
 def calls_of_wrong_size():
-    """11 comes before every other refusal, alters nothing, and the session goes on."""
+    """99 comes before every other refusal, alters nothing, and the session goes on."""
     comment("two items: buffers one too short and one too long, with right and with wrong E and lists")
     base(records(2))
     for digits in WRONG_SIZES:
@@ -842,6 +843,607 @@ REFUSED = (
 )
 
 
+# Cover answers (02 #103): a list of cover requests and a FEDJEL, which follow each other in the text
+
+# The requests of the day. Two have one account, two one sum, three are for accounts that other banks keep than the head's.
+REQUESTS = (
+    b"A12345676T001202003010001" + b"117730161111101800000000" + b"%016d" % 12345,
+    b"A12345676T001202003010002" + b"117730161111101800000000" + b"%016d" % 250000,
+    b"5990000000009202003090007" + b"109000031234567600001238" + b"%016d" % 9000000000000000,
+    b"A16000009T000202003100001" + b"117730162222201900000000" + b"%016d" % 12345,
+    b"A61000009T123202003090002" + b"10900003".ljust(24) + b"%016d" % 77,
+    b"A12345676T002202003010001" + b"011020000000000000000000" + b"%016d" % 0,
+)
+IDENTIFIERS = [own[:25] for own in REQUESTS]
+FEDJEL_HEAD = b"01FEDJEL011720200310000120200310"
+PAIRS = ((b"02", b"1"), (b"03", b"0"), (b"03", b"9"), (b"02", b"1"), (b"03", b"5"), (b"02", b"1"))  # types and answers that go together
+MOST = 9999999999999999  # the largest sum of an item
+NOT_DIGITS = b" :/"
+
+
+def with_value(record, value):
+    first, new = value
+    return record[: first - 1] + new + record[first - 1 + len(new) :]
+
+
+def cover_item(own, kind=b"02", answer=b"1"):
+    """An answer to a request."""
+    return kind + own + answer + b"00"
+
+
+def cover_items(n):
+    """Right answers to the first n requests."""
+    return [cover_item(own, *pair) for own, pair in zip(REQUESTS[:n], PAIRS)]
+
+
+def item_sum(item):
+    return int(item[51:67]) if item[51:67].isdigit() else 0
+
+
+def cover_totals(items):
+    """Count and sum of the items of type 02, then of the others."""
+    halves = [[item for item in items if (item[:2] == b"02") == own] for own in (True, False)]
+    return [total for half in halves for total in (len(half), sum(item_sum(item) for item in half))]
+
+
+def cover_foot(first_count, first_sum, last_count, last_sum):
+    return b"04%04d%016d%04d%016d" % (first_count % 10**4, first_sum % 10**16, last_count % 10**4, last_sum % 10**16)
+
+
+def fedjel(items, opening=FEDJEL_HEAD, foot=None):
+    """The message; where no foot is given, the one that tells the items' totals."""
+    return joined([opening, *items, cover_foot(*cover_totals(items)) if foot is None else foot])
+
+
+def alike(a, b):
+    """How many bytes two texts begin with alike."""
+    return next((k for k, (x, y) in enumerate(zip(a, b)) if x != y), min(len(a), len(b)))
+
+
+def difference(old, new):
+    """The changes that make a text another one: each run of other bytes, or what lies between its equal ends where the length is another."""
+    if len(old) != len(new):
+        first = alike(old, new)
+        last = alike(old[first:][::-1], new[first:][::-1])
+        return [(first, len(old) - first - last, new[first : len(new) - last])]
+    runs = []
+    for k in (k for k in range(len(old)) if old[k] != new[k]):
+        if runs and k - runs[-1][1] < 5:  # a change has ten bytes beside its own
+            runs[-1][1] = k + 1
+        else:
+            runs.append([k, k + 1])
+    return [(start, end - start, new[start:end]) for start, end in runs]
+
+
+class Cover:
+    """A base text of requests and records. Each case has its own list and message, written as the changes of these."""
+
+    def __init__(self, requests, items, opening=FEDJEL_HEAD, foot=None):
+        self.requests, self.message = b"".join(requests), fedjel(items, opening, foot)
+        line(b"M", b"")
+        line(b"-", self.requests)
+        for part in self.message.split(b"\r\n")[:-1]:
+            line(b"+", part)
+
+    def changes(self, message, requests):
+        start = len(self.requests)
+        own = [(start + place, gone, new) for place, gone, new in difference(self.message, message)]
+        return written(difference(self.requests, requests) + own)
+
+    def judge(self, message=None, requests=None, table=None):
+        """A d line; the table has a byte for each item, or a few more, where nothing else is said."""
+        message, requests = self.message if message is None else message, self.requests if requests is None else b"".join(requests)
+        length = max(0, len(message) - 78) // 72 + chance.of((0, 0, 0, 1, 4)) if table is None else table
+        line(b"d", b"%06d %05d" % (len(requests), length) + self.changes(message, requests))
+
+    def answer(self, identifier, message=None, requests=None, cover=1, count=3):
+        """A q line."""
+        message, requests = self.message if message is None else message, self.requests if requests is None else b"".join(requests)
+        words = b"%06d %03d %010d %s" % (len(requests), cover, count, identifier)
+        line(b"q", words + self.changes(message, requests))
+
+
+# Values of a FEDJEL's fields, bad ones and good ones at the edge.
+FEDJEL_HEAD_VALUES = [
+    placed(1, [b"02", b"00", b"04", b"11", b"1 ", b" 1", b"0/"]),
+    placed(3, [b"FEDSTA", b"fedjel", b"FEDJE ", b"ATUTAL", b"FEDJEM", b"GEDJEL", b"FEDKER"]),
+    placed(9, [b"1", b"5", b"9", b"@", b"/", b":", b" ", b"A"]),
+    placed(10, [b"109", b"011", b"118", b"017", b"127", b"000", b"999", b"11 ", b" 17", b"1:7", b"10A", b"010", b"   "]),
+    placed(13, dates(E, -400, -8, -4, -3, -2, -1, 0, 1, 2, 366) + NO_DATES + [b"2020030:"]),
+    placed(21, [b"0000", b"9999", b"000 ", b"    ", b"-001", b"00:1", b"/001", b"000:"]),
+    placed(25, dates(E, -366, -7, -1, 0, 1, 7) + [b"2020031 ", b" 0200310", b"00000000", b"2020030:", b"30200310", b"        "]),
+]
+COVER_ITEM_VALUES = [
+    placed(1, [b"02", b"03", b"01", b"04", b"00", b"12", b"2 ", b" 2", b"0:"]),
+    placed(3, [*IDENTIFIERS, b"a", b"B", b" ", b"0" * 25]) + placed(15, [b"2", b" "]) + placed(27, [b"0", b"9", b" "]),
+    placed(28, [own[25:49] for own in REQUESTS[1:5]] + [b"0", b" "]) + placed(51, [b"1", b" "]),
+    placed(52, [own[49:] for own in REQUESTS[:5]] + [b"9", b" ", b":", b"/"]) + placed(67, [b"4", b"6", b" ", b":", b"/"]),
+    placed(52, [b" " * 16, b"%016d" % MOST, b"%016d" % 0]),
+    placed(68, [b"0", b"1", b"5", b"9", b"2", b"4", b"6", b"8", b"/", b":", b" ", b"A"]),
+    placed(69, [b"99", b"  ", b"~~", b"0 ", b"A!"]),
+]
+COVER_FOOT_VALUES = [
+    placed(1, [b"03", b"02", b"00", b"4 ", b" 4", b"0:", b"14"]),
+    placed(3, [b"0000", b"0001", b"0002", b"9999", b"   1", b"000 ", b"000/", b":001"]),
+    placed(7, [b"0" * 16, b"%016d" % 12344, b"%016d" % 12346, b"9" * 16, b"%16d" % 12345]),
+    placed(23, [b"0000", b"0001", b"0003", b"9999", b"   2", b"000 ", b"000/", b":002"]),
+    placed(27, [b"0" * 16, b"9000000000249999", b"9000000000250001", b"9" * 16, b" 900000000025000"]),
+]
+
+
+def covers_alone():
+    """Every value of every field alone, then each type with each answer, and the FEDSTA beside each."""
+    comment("FEDJEL of 3 items, a list of six: good, each value of a field alone")
+    items = cover_items(3)
+    base_text = Cover(REQUESTS, items)
+    foot = cover_foot(*cover_totals(items))
+    base_text.judge()
+    for values in FEDJEL_HEAD_VALUES:
+        for value in values:
+            base_text.judge(fedjel(items, with_value(FEDJEL_HEAD, value)))
+    for values in COVER_FOOT_VALUES:
+        for value in values:
+            base_text.judge(fedjel(items, foot=with_value(foot, value)))
+    for values in COVER_ITEM_VALUES:
+        for value in values:
+            k = chance.under(3)
+            changed = [*items[:k], with_value(items[k], value), *items[k + 1 :]]
+            base_text.judge(fedjel(changed))  # the foot tells what the items give
+            base_text.judge(fedjel(changed, foot=foot))
+            if chance.under(2):
+                base_text.answer(IDENTIFIERS[k], fedjel(changed))
+    comment("FEDJEL of 3 items: sums that aren't digits but would give the right number, identifiers that stand elsewhere in the list")
+    for k, value in ((0, (52, b"000000000001233?")), (0, (52, b"           12345")), (1, (52, b"000000000024:000")), (0, (67, b"E"))):
+        base_text.judge(fedjel([*items[:k], with_value(items[k], value), *items[k + 1 :]], foot=foot))
+    base_text.judge(fedjel([*items[:2], with_value(cover_item(REQUESTS[5]), (52, b" " * 16))]))
+    for place in (1, 24, 25, 26, 40, 64, 66, 105):
+        elsewhere = base_text.requests[place : place + 25]
+        base_text.judge(fedjel([*items[:2], with_value(items[2], (3, elsewhere))]))
+        base_text.answer(elsewhere)
+    comment("FEDJEL of 1 item: each type with each answer")
+    base_text = Cover(REQUESTS, items[:1])
+    for kind in (b"02", b"03", b"01", b"04", b"  "):
+        for answer in (b"0", b"1", b"5", b"9", b"2", b" "):
+            text = fedjel([cover_item(REQUESTS[0], kind, answer)])
+            base_text.judge(text)
+            base_text.answer(IDENTIFIERS[0], text, cover=chance.under(2))
+
+
+def covers_of_letters():
+    """A byte outside 20h-7Eh at every place of head, item and foot; every byte where nothing else is asked for; two that pass."""
+    comment("FEDJEL of 2 items: a bad letter at each place of the head, an item and the foot")
+    items = cover_items(2)
+    base_text = Cover(REQUESTS, items)
+    bad = BAD_LETTERS + LETTERS
+    for k, (start, length) in enumerate(((0, 32), (34, 70), (106, 70), (178, 42))):
+        for place in range(start, start + length) if k != 2 else (106, 140, 175):
+            letter = bytes([chance.of(bad)])
+            base_text.judge(with_value(base_text.message, (place + 1, letter)))
+    comment("FEDJEL of 2 items: each byte in an error code, and bad letters beside another fault")
+    for letter in range(256):
+        base_text.judge(with_value(base_text.message, (104 + 72 * (letter % 2) - letter // 128, bytes([letter]))))
+    for letter in b"\x1f ~\x7f\x80\x81\xfb\xff":
+        for place in (1, 9, 32, 37, 62, 104, 179, 220):
+            base_text.answer(IDENTIFIERS[chance.under(2)], with_value(base_text.message, (place, bytes([letter]))))
+
+
+def covers_broken():
+    """Lengths and endings (12): every kind of place, records left out, put in and moved, bytes moved from one record to another."""
+    items = cover_items(3)
+    for n in (1, 3):
+        comment("FEDJEL of %d items: lengths and endings that are wrong" % n)
+        base_text = Cover(REQUESTS, items[:n])
+        text = base_text.message
+        at = [0, *(34 + 72 * k for k in range(n + 1)), len(text)]
+        for start, end in zip(at, at[1:]):
+            for ending in (b"\n\r", b"\r\r", b"\n\n", b"\r", b"\n", b"", b"\r\n\r\n", b"  ", b"\r ", b" \n"):
+                base_text.judge(text[: end - 2] + ending + text[end:], table=n)
+            for cut in (start, start + 1, (start + end) // 2, end - 2, end - 1):
+                base_text.judge(text[:cut], table=n)
+            for begin, after, new in ((start, start, b"0"), (end - 3, end - 2, b""), (start, start + 1, b""), (start, end, b"")):
+                base_text.judge(text[:begin] + new + text[after:], table=n)
+            base_text.judge(text[: end - 2] + b"0\r\n" + text[end : len(text) - 3] + b"\r\n", table=n)
+            base_text.judge(text[:start] + text[start + 1 : end] + b"0" + text[end:], table=n)
+            base_text.answer(IDENTIFIERS[0], text[: end - 1] + b"\r" + text[end:])
+            base_text.answer(IDENTIFIERS[0], text[: end - 3] + text[end - 2 :])
+        for new in (b"0", b"\r", b"\n", b"\r\n", b"0" * 72, b"0" * 70 + b"\r\n", text[-44:], text):
+            base_text.judge(text + new, table=n + 3)
+            base_text.judge(new + text, table=n + 3)
+        for n_bytes in (0, 1, 2, 33, 34, 43, 44, 77, 78, 79, 149, 150, 151):
+            base_text.judge((text * 2)[:n_bytes], table=3)
+        for parts in ([], items[:1] * 2, [FEDJEL_HEAD.ljust(70), *items[:n]], [*items[:n], cover_foot(1, 2, 3, 4).ljust(70)]):
+            base_text.judge(fedjel(parts), table=4)
+            base_text.answer(IDENTIFIERS[0], fedjel(parts))
+
+
+# One fault for each code in the order of #103: the record (0 the head, 1 to 3 an item, 4 the foot) and the value.
+COVER_RANKED = [
+    *((0, (9, b"\x80")), (2, (69, b"\x7f")), (4, (1, b"\x1f"))),
+    *((0, value) for value in ((1, b"02"), (3, b"FEDSTA"), (9, b"@"), (10, b"118"), (13, b"20200308"), (21, b"000 "), (25, b"20200309"))),
+    *((1, (60, b" ")), (2, (1, b"04")), (2, (52, b":")), (3, (1, b"01"))),
+    *((4, value) for value in ((1, b"03"), (3, b"0002"), (7, b"9"), (23, b"000 "), (27, b"/"))),
+    *((1, (3, b"B")), (2, (28, b"9")), (3, (68, b"1")), (3, (52, b"8"))),
+]
+
+
+def covers_in_pairs():
+    """Each fault alone and each two: the first in order gives the message code, each item keeps its own; no FEDSTA where there is a code."""
+    comment("FEDJEL of 3 items: each two faults that have a code")
+    items = cover_items(3)
+    base_text = Cover(REQUESTS, items)
+    right = [FEDJEL_HEAD, *items, cover_foot(*cover_totals(items))]
+    for k, (record, value) in enumerate(COVER_RANKED):
+        parts = [*right[:record], with_value(right[record], value), *right[record + 1 :]]
+        base_text.judge(joined(parts))
+        for identifier in IDENTIFIERS[:3] if 0 < record < 4 else [chance.of(IDENTIFIERS[:3])]:
+            base_text.answer(identifier, joined(parts))
+        for other, later in COVER_RANKED[:k]:
+            base_text.judge(joined([*parts[:other], with_value(parts[other], later), *parts[other + 1 :]]))
+
+
+# Answers to the first request: right ones, a wrong account, a wrong sum, a type and an answer that don't go together; and an unknown one.
+ANSWERS = (
+    *(cover_item(REQUESTS[0], *pair) for pair in ((b"02", b"1"), (b"03", b"5"))),
+    *(with_value(cover_item(REQUESTS[0]), value) for value in ((51, b"1"), (67, b"6"), (68, b"0"), (27, b"9"))),
+)
+
+
+def covers_repeated():
+    """Up to three answers to one request, in every order; longer ones by chance, with answers to another between them."""
+    for n in (1, 2, 3):
+        comment("FEDJEL of %d items: answers to one request, right and wrong, in every order" % n)
+        base_text, of = Cover(REQUESTS[:2], [ANSWERS[0]] * n), ANSWERS[:5] if n == 3 else ANSWERS
+        for k in range(len(of) ** n):
+            text = fedjel([of[k // len(of) ** i % len(of)] for i in range(n)])
+            base_text.judge(text)
+            if n < 3 or chance.under(4) == 0:
+                base_text.answer(IDENTIFIERS[0], text, cover=chance.under(2))
+    comment("FEDJEL of 6 items: answers to two requests, right and wrong")
+    base_text = Cover(REQUESTS[:2], [ANSWERS[0]] * 3 + [cover_item(REQUESTS[1])] * 3)
+    other = [cover_item(REQUESTS[1], *pair) for pair in PAIRS[:3]] + [with_value(cover_item(REQUESTS[1]), value) for value in ((28, b"9"), (68, b"9"))]
+    for _ in range(16):
+        text = fedjel([chance.of(chance.of((ANSWERS, other))) for _ in range(6)])
+        base_text.judge(text)
+        base_text.answer(IDENTIFIERS[chance.under(2)], text, cover=chance.under(2))
+
+
+def covers_of_faulty_items():
+    """Any of the faults of an item at once, with and without a right answer before it; with an Ü fault of the item too."""
+    comment("FEDJEL of 2 items: every set of faults of an item, after a right answer and after a wrong one")
+    faults = ((3, b"B"), (40, b"9"), (67, b" "), (68, b"7"), (1, b"04"))
+    base_text = Cover(REQUESTS[:3], [ANSWERS[0]] * 2)
+    for first in (ANSWERS[0], ANSWERS[2]):
+        for chosen in range(2 ** len(faults)):
+            item = ANSWERS[0]
+            for k, fault in enumerate(faults):
+                item = with_value(item, fault) if chosen >> k & 1 else item
+            base_text.judge(fedjel([first, item]))
+
+
+def foots(totals, most):
+    """Foots with the right totals, shared out otherwise, up to so many of them off by one, and not digits."""
+    first_count, first_sum, last_count, last_sum = totals
+    yield from (cover_foot(*totals), cover_foot(*totals[2:], *totals[:2]), cover_foot(0, 0, 0, 0))
+    yield cover_foot(first_count + last_count, first_sum + last_sum, 0, 0)
+    yield cover_foot(0, 0, first_count + last_count, first_sum + last_sum)
+    yield cover_foot(first_count, 0, last_count, first_sum + last_sum)
+    yield cover_foot(0, first_sum, first_count + last_count, last_sum)
+    for steps in range(3**4):
+        off = [steps // 3**k % 3 - 1 for k in range(4)]
+        if 4 - most <= off.count(0) < 4:
+            yield cover_foot(*(total + step for total, step in zip(totals, off)))
+    for first, last in ((3, 6), (7, 22), (23, 26), (27, 42)):
+        for byte in NOT_DIGITS:
+            yield with_value(cover_foot(*totals), (chance.of((first, last)), bytes([byte])))
+        together = cover_foot(0, 0, first_count + last_count, first_sum + last_sum)
+        yield with_value(together, (first, b" " * (last - first + 1)))
+    yield with_value(cover_foot(*totals), (7, b"%015d%c" % (first_sum // 10 - 1, 58 + first_sum % 10)))
+
+
+def covers_by_totals():
+    """Foots with and without faulty items."""
+    items = cover_items(4)
+    faulty = ((3, b"B"), (28, b"9"), (52, b"8"), (68, b"7"), (3, REQUESTS[0]))  # 74, 71, 89, 76, 75
+    for k, value in enumerate((None, *faulty)):
+        comment("FEDJEL of 4 items: totals, %s" % ("the third item faulty" if value else "no item faulty"))
+        own = [*items[:2], with_value(items[2], value) if value else items[2], items[3]]
+        base_text = Cover(REQUESTS, own)
+        for foot in foots(cover_totals(own), 2 if k < 2 else 1):
+            base_text.judge(fedjel(own, foot=foot))
+        base_text.answer(IDENTIFIERS[0])
+        base_text.answer(IDENTIFIERS[0], fedjel(own, foot=cover_foot(0, 0, 4, sum(item_sum(item) for item in own))))
+    comment("FEDJEL of 2 items: sums that a field holds just, and one more")
+    requests = [own[:49] + b"%016d" % total for own, total in zip(REQUESTS, (MOST, 1))]
+    for pairs in ((0, 3), (0, 1), (1, 2), (0, 4)):  # places of PAIRS; the first two are both 02, then 02 and 03, both 03
+        own = [cover_item(request, *PAIRS[k]) for request, k in zip(requests, pairs)]
+        base_text = Cover(requests, own)
+        for changed in (own, [own[0], with_value(own[1], (68, b"7"))]):
+            for sums in ((MOST, 1), (1, MOST), (MOST + 1, 0), (0, MOST + 1), (MOST, 0), (0, MOST), (MOST // 2 + 1, MOST // 2 + 1)):
+                counts = cover_totals(changed)[::2]
+                base_text.judge(fedjel(changed, foot=cover_foot(counts[0], sums[0], counts[1], sums[1])))
+    comment("FEDJEL of 3 items: sums that the two fields don't hold together")
+    for last in (0, 1, 2, 3):
+        requests = [own[:49] + b"%016d" % total for own, total in zip(REQUESTS, (MOST, MOST, last))]
+        own = [cover_item(request, *pair) for request, pair in zip(requests, PAIRS)]
+        base_text = Cover(requests, own)
+        for changed in (own, [*own[:2], with_value(own[2], (68, b"7"))], [own[0], cover_item(requests[1]), own[2]]):
+            for sums in ((MOST, MOST), (MOST, last), (last, MOST), (0, 0), (MOST, MOST - 1)):
+                counts = cover_totals(changed)[::2]
+                base_text.judge(fedjel(changed, foot=cover_foot(counts[0], sums[0], counts[1], sums[1])))
+
+
+def bad_lists():
+    """Lists that are refused with 11: a length, a sum, a twin."""
+    near = with_value(REQUESTS[0], (26, b"9" * 40))
+    return [
+        *((b"".join(REQUESTS)[:length],) for length in (1, 64, 66, 129, 389)),
+        *((*REQUESTS, new) for new in (b"0", b"0" * 64, REQUESTS[0], near, with_value(REQUESTS[5], (50, b"1")), REQUESTS[5])),
+        *((REQUESTS[0], new, *REQUESTS[1:]) for new in (REQUESTS[0], near, with_value(REQUESTS[0], (65, b"0")))),
+        *((*REQUESTS[:k], with_value(REQUESTS[k], value), *REQUESTS[k + 1 :]) for k, value in zip(range(6), placed(50, b" |/|:|\x80|-|\n".split(b"|")))),
+        *((*REQUESTS[:k], with_value(REQUESTS[k], value), *REQUESTS[k + 1 :]) for k, value in zip(range(6), placed(65, b" |/|:|\xff|\0|A".split(b"|")))),
+        (*REQUESTS[:2], with_value(REQUESTS[2], (58, b".")), *REQUESTS[3:]),
+        (*REQUESTS[:2], with_value(REQUESTS[3], (50, b"x")), *REQUESTS[3:]),  # a sum and a twin
+    ]
+
+
+def good_lists():
+    """Lists that pass: none, some, identifiers that are near each other, bytes that aren't examined."""
+    return [
+        *((), REQUESTS[:1], REQUESTS[1:2], REQUESTS[2:], REQUESTS[3:5]),
+        *((*REQUESTS, with_value(REQUESTS[0], value)) for value in ((1, b"B"), (25, b"3"), (25, b"\0"), (13, b" "), (1, b"\r\n"))),
+        *((*REQUESTS[:5], with_value(REQUESTS[5], value)) for value in ((1, bytes(range(25))), (26, b"\xff" * 24), (26, b"\r\n "))),
+        (b"\xff" * 49 + b"0" * 16, *REQUESTS, bytes(49) + b"9" * 16),
+        (*REQUESTS[:1], *(with_value(own, (26, b" ")) for own in REQUESTS[1:])),
+    ]
+
+
+def covers_by_order():
+    """The order of the list changes no answer."""
+    comment("FEDJEL of 4 items: one list in several orders")
+    items = [*cover_items(2), ANSWERS[0], with_value(cover_item(REQUESTS[4]), (52, b"9"))]
+    for requests in (REQUESTS, REQUESTS[::-1], REQUESTS[3:] + REQUESTS[:3], REQUESTS[::2] + REQUESTS[1::2], REQUESTS[1:] + REQUESTS[:1]):
+        base_text = Cover(requests, items)
+        base_text.judge()
+        base_text.judge(fedjel(items, with_value(FEDJEL_HEAD, (10, b"011"))))
+        for k in (0, 1, 4):
+            base_text.answer(IDENTIFIERS[k])
+
+
+def covers_given():
+    """Lists, right and wrong; heads of banks by them; refusals one by one and together, with each length of the table."""
+    items = [*cover_items(4), ANSWERS[0]]
+    comment("FEDJEL of 5 items: lists that pass")
+    base_text = Cover(REQUESTS, items)
+    for requests in good_lists():
+        base_text.judge(requests=requests)
+        for k in (0, 5):
+            base_text.answer(IDENTIFIERS[k], requests=requests)
+        for bank in (b"109", b"011"):
+            base_text.judge(fedjel(items, with_value(FEDJEL_HEAD, (10, bank))), requests)
+    for bank in (b" 17", b"1:7", b"11/", b"A00", b"   ", b"117"):
+        changed = with_value(base_text.message, (10, bank))
+        base_text.judge(changed, (*REQUESTS[:5], with_value(REQUESTS[5], (26, bank))))
+        base_text.judge(changed, (with_value(REQUESTS[5], (26, bank)),))
+    comment("FEDJEL of 5 items: lists that are refused")
+    for requests in bad_lists():
+        base_text.judge(requests=requests)
+        base_text.answer(IDENTIFIERS[0], requests=requests)
+    comment("FEDJEL of 5 items: tables of every length around that, and long ones")
+    for length in (*range(8), 9999, 10000, 10001, 20000):
+        base_text.judge(table=length)
+        base_text.judge(fedjel(items, with_value(FEDJEL_HEAD, (9, b"@"))), table=length)
+    comment("FEDJEL of 5 items: two and more refusals at once, numbers of a wrong size")
+    for digits in (b"111", b"101", b"121", b"110", b"012"):
+        sized(digits)
+        for chosen in range(2**4):
+            day, requests = (20200230 if chosen & 1 else E), (chance.of(bad_lists()) if chosen & 2 else REQUESTS)
+            text = base_text.message[:-1] if chosen & 4 else base_text.message
+            line(b"E", b"%08d" % day)
+            base_text.judge(text, requests, 4 if chosen & 8 else 5)
+    sized()
+    for day in (*NO_DAYS, 99999999):
+        line(b"E", b"%08d" % day)
+        base_text.judge()
+        base_text.answer(IDENTIFIERS[0])
+    given()
+
+
+# Each day of the week as E, then days around the ends of months, years and the calendar.
+COVER_DAYS = (*range(20200309, 20200316), 20200301, 20200229, 20210101, 20240101, 20000301, *range(10101, 10109), 99991231)
+
+
+def covers_by_days():
+    items = cover_items(1)
+    base_text = Cover(REQUESTS, items)
+    for day in COVER_DAYS:
+        comment("FEDJEL of 1 item: E %08d, dates around it" % day)
+        line(b"E", b"%08d" % day)
+        own = with_value(FEDJEL_HEAD, (25, b"%08d" % day))
+        for date in dates(day, -5, -4, -3, -2, -1, 0, 1):
+            base_text.judge(fedjel(items, with_value(own, (13, date))))
+        base_text.judge()
+        base_text.answer(IDENTIFIERS[0], fedjel(items, with_value(own, (13, b"%08d" % day))))
+    given()
+
+
+def fedstas():
+    """Each answer with cover and without; particulars and outputs; which answer stands; refusals one by one and together."""
+    comment("FEDSTA from 6 items: each answer, cover yes for 1 alone")
+    base_text = Cover(REQUESTS, cover_items(6))
+    for cover in (0, 1, 2, 3, 128, 129, 254, 255):
+        for identifier in IDENTIFIERS:
+            base_text.answer(identifier, cover=cover, count=chance.of((0, 1, 7, 1234, 999999)))
+    comment("FEDSTA: identifiers that aren't in the list, or have a wrong size")
+    for identifier in (b"A12345676T001202003010003", b"B12345676T001202003010001", b" " * 25, b"a" + IDENTIFIERS[0][1:], IDENTIFIERS[0][1:] + b"1"):
+        base_text.answer(identifier)
+    for identifier in (b"", b"A", IDENTIFIERS[0][:24], IDENTIFIERS[0] + b" ", IDENTIFIERS[0] + b"1", IDENTIFIERS[0] * 2):
+        base_text.answer(identifier)
+        line(b"E", b"00000000")
+        base_text.answer(identifier, b"", (b"0",), 0, 1000000)
+        given()
+    comment("FEDSTA: a request that no item answers; the first right answer stands")
+    answers = [cover_item(REQUESTS[0], *pair) for pair in (*PAIRS[:3], PAIRS[4])] + list(ANSWERS[2:5])
+    base_text = Cover(REQUESTS, [cover_item(REQUESTS[1]), *answers[:2]])
+    base_text.answer(IDENTIFIERS[2])
+    for first in answers:
+        for last in answers:
+            for cover in (0, 1) if b"1" in (first[67:68], last[67:68]) else (chance.under(2),):
+                base_text.answer(IDENTIFIERS[0], fedjel([cover_item(REQUESTS[1]), first, last]), cover=cover)
+    fedsta_particulars()
+    fedsta_refusals()
+
+
+def fedsta_particulars():
+    comment("FEDSTA: particulars and outputs at their limits")
+    base_text = Cover(REQUESTS, cover_items(6))
+    right = b"0", 7, 83000, 3, 104
+    others = (
+        (b"0", b"@", b"1", b"9", b"A", b" ", b"?", b"/", b"\0", b"\xff"),
+        (0, 1, 9999, 10000, 99999, 65543, 4294967295),
+        (0, 59, 60, 100, 5959, 5960, 6000, 235959, 235960, 236000, 240000, 999999, 1000000, 1083000, 4294967295),
+        (0, 1, 99999, 999999, 1000000, 1000003, 4294967295),
+        (0, 1, 54, 56, 57, 102, 103, 104, 105, 110, 2000),
+    )
+    for k, values in enumerate(others):
+        for value in values:
+            duplicate, number, time, count, room = (*right[:k], value, *right[k + 1 :])
+            line(b"P", duplicate + b" %010d %010d %06d" % (number, time, room))
+            base_text.answer(chance.of((IDENTIFIERS[0], IDENTIFIERS[3], IDENTIFIERS[5])), count=count)
+            base_text.answer(chance.of((IDENTIFIERS[1], IDENTIFIERS[2], IDENTIFIERS[4])), count=count, cover=0)
+
+
+def fedsta_refusals():
+    comment("FEDSTA: every set of refusals")
+    base_text = Cover(REQUESTS, [cover_item(REQUESTS[1]), ANSWERS[1]])
+    for chosen in range(2**6):
+        line(b"E", b"%08d" % (20200230 if chosen & 1 else E))
+        requests, text = chance.of(bad_lists()) if chosen & 2 else REQUESTS, base_text.message
+        wrong = chance.of((b"@", b"1 ", b" ")) if chosen & 16 else b"0"
+        line(b"P", wrong[:1] + b" %010d %010d %06d" % (10000 if wrong == b"@" else 7, 83000, 103 if chosen & 32 else 104))
+        absent = chance.under(3) if chosen & 8 else 3  # not in the list, a code of the message, no cover
+        text = with_value(text, (9, b"@")) if absent == 1 else text
+        text = text[:-1] + b"\r" if chosen & 4 else text
+        base_text.answer(IDENTIFIERS[2 if absent == 0 else 1], text, requests, int(absent != 2))
+    given()
+    for duplicate, number, time, count in ((b"1", 7, 83000, 3), (b"0", 10000, 83000, 3), (b"0", 7, 236000, 3), (b"0", 7, 83000, 1000000)):
+        line(b"P", duplicate + b" %010d %010d 000103" % (number, time))
+        base_text.answer(IDENTIFIERS[1], count=count)
+        base_text.answer(IDENTIFIERS[1], count=count, cover=0)
+        base_text.answer(IDENTIFIERS[2], count=count)
+    line(b"P", PARTICULARS)
+
+
+def cover_field(items):
+    """A message of these items with chance values in fields of chance records."""
+    parts = [FEDJEL_HEAD, *items, cover_foot(*cover_totals(items))]
+    for _ in range(1 + chance.under(3)):
+        k = chance.of((0, len(parts) - 1, *range(1, len(parts) - 1)))
+        fields = FEDJEL_HEAD_VALUES if k == 0 else COVER_FOOT_VALUES if k == len(parts) - 1 else COVER_ITEM_VALUES
+        parts[k] = with_value(parts[k], at_chance(fields))
+        if 0 < k < len(parts) - 1 and chance.under(2):
+            parts[-1] = cover_foot(*cover_totals(parts[1:-1]))
+    return joined(parts)
+
+
+def damaged(text):
+    for place, gone, new in [damage(len(text)) for _ in range(1 + chance.under(2))]:
+        text = text[:place] + new + text[place + gone :]
+    return text
+
+
+def shuffled(values):
+    left, taken = list(values), []
+    while left:
+        taken.append(left.pop(chance.under(len(left))))
+    return taken
+
+
+def covers_at_chance(count):
+    for _ in range(count):
+        n = 1 + chance.under(6)
+        requests = shuffled(REQUESTS)[: chance.of((6, 6, 6, 4, 2))]
+        items = [cover_item(chance.of(chance.of((requests, REQUESTS))), *chance.of(PAIRS)) for _ in range(n)]
+        comment("FEDJEL of %d items by chance, a list of %d: values, damage, another order of the list" % (n, len(requests)))
+        base_text = Cover(requests, items)
+        base_text.judge(requests=chance.of((requests, requests, shuffled(requests))))
+        for _ in range(2):
+            base_text.answer(chance.of(IDENTIFIERS), cover=chance.under(2))
+        for _ in range(3):
+            text = cover_field(items)
+            base_text.judge(text)
+            base_text.answer(chance.of(IDENTIFIERS), text, cover=chance.under(2))
+        base_text.judge(damaged(base_text.message))
+        base_text.judge(requests=[damaged(b"".join(requests))])
+
+
+def large_cover(requests, groups, foot, tables):
+    """A base text of many requests and items, told by count and bytes, whose identifiers begin with their numbers; a d line for each table."""
+    line(b"M", b"")
+    for count, own in requests:
+        line(b"*", b"%06d05-" % count + own)
+    line(b"+", FEDJEL_HEAD)
+    for count, item in groups:
+        line(b"*", b"%06d25+" % count + item)
+    line(b"+", foot)
+    for table in tables:
+        line(b"d", b"%06d %05d" % (65 * sum(count for count, _ in requests), table))
+
+
+def many(total):
+    """A request with this sum; the number comes over its first five bytes."""
+    return b"00000".ljust(25, b"x") + b"117730161111101800000000" + b"%016d" % total
+
+
+def covers_large_and_faulty():
+    """Many answers to requests that aren't in the list: their sums go beyond 64 bits, their number beyond four digits."""
+    comment("FEDJEL of many items, each unknown: sums beyond 64 bits, and as they would be if they wrapped")
+    known = ((1, REQUESTS[0]),)
+    for n in (2, 3, 1844, 1845, 1846, 3690):
+        total, wrapped, cut = n * MOST, n * MOST % 2**64, n * MOST % 10**16
+        for whole in sorted({total, wrapped, cut, 2 * MOST}) if n != 2 else (total, total - 1):
+            if whole <= 2 * MOST:
+                foot = cover_foot(n, min(whole, MOST), 0, whole - min(whole, MOST))
+                large_cover(known, ((n, cover_item(many(MOST))),), foot, (n,))
+    foot = cover_foot(900, 1845 * MOST - 2**64 - 1, 945, 1)
+    large_cover(known, ((922, cover_item(many(MOST))), (923, cover_item(many(MOST), b"03", b"0"))), foot, (1845,))
+    comment("FEDJEL of many items, each unknown: counts that the two fields hold together, and one more")
+    for n, first, last in ((9999, 9999, 0), (10000, 9999, 1), (10000, 0, 0), (10001, 5000, 5001), (19998, 9999, 9999), (19999, 9999, 9999)):
+        large_cover(known, ((n, cover_item(many(1))),), cover_foot(first, n, last, 0), (n, n - 1) if n == 10001 else (n,))
+
+
+def covers_large():
+    """Many right answers: each has its request."""
+    comment("FEDJEL of 1,845 items, none faulty: sums beyond 64 bits, and as they would be if they wrapped")
+    n = 1845
+    for kind, answer in PAIRS[:2]:
+        for total in (n * MOST % 2**64, n * MOST % 10**16):
+            totals = (n, total, 0, 0) if kind == b"02" else (0, 0, n, total)
+            large_cover(((n, many(MOST)),), ((n, cover_item(many(MOST), kind, answer)),), cover_foot(*totals), (n,))
+    comment("FEDJEL of 1,845 items, none faulty: a list of one more, code 00, and two FEDSTAs")
+    large_cover(((n + 1, many(7)),), ((n, cover_item(many(7))),), cover_foot(n, 7 * n, 0, 0), (n, n - 1, n + 1))
+    for k in (n, n + 1):
+        line(b"q", b"%06d 001 0000000003 %05d%s" % (65 * (n + 1), k, b"x" * 20))
+    comment("FEDJEL of 10,000 items of type 02, none faulty, which four digits don't hold")
+    large_cover(((10000, many(1)),), ((10000, cover_item(many(1))),), cover_foot(0, 10000, 0, 0), (10000,))
+
+
+def covers():
+    covers_alone()
+    covers_of_letters()
+    covers_broken()
+    covers_in_pairs()
+    covers_repeated()
+    covers_of_faulty_items()
+    covers_by_totals()
+    covers_by_order()
+    covers_given()
+    covers_by_days()
+    fedstas()
+    covers_at_chance(24)
+    covers_large_and_faulty()
+    covers_large()
+
+
 # The cases written by hand
 
 
@@ -920,6 +1522,8 @@ def main():
     calls_after_refused_pieces(2, BESZED, 1, 3)
     for kind in KINDS:
         halves(kind)
+    comment("Cover answers: FEDJEL and FEDSTA")
+    covers()
     hand_written()
 
 

@@ -8,7 +8,7 @@ text, are those of script.py; like them, P, Z and X set something, and the lines
 small letters try something:
 
     P   duplicate code, ten digits number, ten digits time, six digits output's
-        length, single spaces between them: the particulars of the replies
+        length, single spaces between them: the particulars of the replies and FEDSTAs
     Z   three digits, for session, numbers and id: 0 the buffer that is lent has one
         element too few, 1 the right count, 2 one too many
     j   five digits code table's length, a space, four digits for the length of each
@@ -27,6 +27,11 @@ small letters try something:
     t   five digits code table's length, four digits first, four digits last, single
         spaces between them: the session takes the text's bytes from first to last
     c   closes the session
+    d   six digits list's length, a space, five digits code table's length: judges the
+        FEDJEL that follows the list of cover requests in the text
+    q   six digits list's length, three digits cover, ten digits count, and the
+        identifier, single spaces between them: writes the FEDSTA for that request from
+        the FEDJEL that follows the list in the text
     X   four digits place, a space, three digits: puts that byte into the session
 
 The text of a line is the base text with the changes that follow the sign | of the
@@ -48,7 +53,10 @@ nsh_read_status, an s line the number of nsh_single, an f line what is printed, 
 of its own. An a line has that of the pieces, none and all, and 1 where the pieces of
 each cut left the same, as 01 demands. An o, t or c line has that of its call, and 1
 where the session's bytes are those before the call, else 0. Numbers and identifier are
-there also for o and t, and a table of length 0 for c.
+there also for o and t, and a table of length 0 for c. A d line has the number of
+nsh_fedjel, its numbers, up to 25 of the table's first bytes and the table's two sums. A q
+line has the number of nsh_fedsta and the two sums of what follows the FEDSTA in the output,
+or of the whole output where it is refused; then the FEDSTA, on lines of its own.
 """
 
 import signal
@@ -57,6 +65,7 @@ from itertools import accumulate
 
 sys.dont_write_bytecode = True  # no folder of compiled files beside the sources
 
+import cover
 import message
 import rules
 import script
@@ -66,7 +75,9 @@ import status
 
 UNTOUCHED = 255
 SIZE = 99  # the header, NSH_SIZE
-CLOSING_NUMBERS, REPLY_NUMBERS, ID_BYTES = 7, 1, 25  # the header, sizes of buffers
+CLOSING_NUMBERS, REPLY_NUMBERS, FEDJEL_NUMBERS, ID_BYTES = 7, 1, 2, 25  # the header, sizes of buffers
+COVER = 1  # the header, nsh_fedsta: any other number is no
+SHOWN = 25  # the bytes of a table that a d line has
 
 # The header, NSH_FIELD and NSH_KIND: numbered from 1.
 FIELDS = b"""
@@ -170,6 +181,33 @@ def single(text, own, given):
     return int(kind) if field == b"refused" else 100 * (FIELDS.index(field) + 1) + KINDS.index(kind) + 1
 
 
+# Calls on cover answers: the list of requests stands before the FEDJEL in the text
+
+
+def fedjel(text, own, day, sizes):
+    """What nsh_fedjel gives. The line has the lengths of the list and of the table."""
+    end, length = (int(field) for field in own.split())
+    answer = cover.judge(text[end:], day, text[:end], length)
+    refused, codes = (answer[1], b"") if answer[0] == "refused" else (0, answer[2])
+    if sizes.numbers:
+        refused, codes = SIZE, b""
+    numbers = untouched(FEDJEL_NUMBERS + sizes.numbers) if refused else answer[:2]
+    table = message.table_after(untouched(length), codes)
+    return b" %d" % refused + listed(numbers) + listed(table[:SHOWN]) + sums(table)
+
+
+def fedsta(text, own, day, particulars):
+    """What nsh_fedsta gives. The line has the list's length, cover, count and the identifier, which may have a wrong size."""
+    end, covered, count, identifier = int(own[:6]), int(own[7:10]) == COVER, int(own[11:21]), own[22:]
+    number, time, room = (int(field) for field in particulars[2:].split())
+    answer = cover.fedsta(text[end:], day, text[:end], identifier, covered, particulars[0], number, time, count, room)
+    refused, written = (0, answer) if isinstance(answer, bytes) else (answer[1], b"")
+    if len(identifier) != ID_BYTES:
+        refused, written = SIZE, b""
+    said = b" %d" % refused + sums(untouched(room - len(written)))
+    return said if refused else said + b"\n" + written
+
+
 # Calls on the session
 
 
@@ -262,6 +300,10 @@ def answer(command, own, text, given, particulars, sizes, host):
         return b" %d" % single(text, own, given)
     if command == b"f":
         return printed(own, text)
+    if command == b"d":
+        return fedjel(text, own, given[0], sizes)
+    if command == b"q":
+        return fedsta(text, own, given[0], particulars)
     if command in b"otc":
         length, first, last = ([int(field) for field in own.split()] + [0, 0, 0])[:3]
         return host.call(command, text[first:last], given, length, sizes)
@@ -286,7 +328,7 @@ def main():
             sizes = Sizes(rest)
         elif command == b"X":
             host.put(int(rest[:4]), int(rest[5:]))
-        elif command in b"jawsrfotc":
+        elif command in b"jawsrfotcdq":
             own, _, changes = rest.partition(b"|")
             text = changed(base, changes.split())
             line = answer(command, own, text, given, particulars, sizes, host)

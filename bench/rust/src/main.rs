@@ -1,6 +1,7 @@
 //! Times of the proved library beside a judge in plain Rust, on the same messages.
 
 mod agreement;
+mod cover;
 mod messages;
 mod plain;
 mod proved;
@@ -166,6 +167,7 @@ fn main() {
     let listed = good(&many, Kind::Atutal, 10_000, 0);
     let thousand = good(&few, Kind::Atutal, 1_000, 0);
     let debits = good(&few, Kind::Beszed, 10_000, 0);
+    let covers = cover::measured();
     agreement::check(&[
         (&few, Kind::Atutal, &plain),
         (&few, Kind::Atutal, &accented),
@@ -173,6 +175,7 @@ fn main() {
         (&few, Kind::Atutal, &thousand),
         (&few, Kind::Beszed, &debits),
     ]);
+    cover::check(&covers);
 
     let mut rows = vec![
         row("whole, 10 banks", &few, &plain, Task::Whole),
@@ -201,4 +204,5 @@ fn main() {
     }
     print(&rows);
     print_wanted(&rows[0], &rows[1..4], &rows[11]);
+    cover::print(&covers);
 }

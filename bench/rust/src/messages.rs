@@ -33,22 +33,26 @@ impl Dice {
         (self.0 >> 11) % n
     }
 
-    fn pick<'a, T: ?Sized>(&mut self, of: &[&'a T]) -> &'a T {
+    pub fn pick<'a, T: ?Sized>(&mut self, of: &[&'a T]) -> &'a T {
         of[self.below(of.len() as u64) as usize]
     }
 }
 
-/// So many digits, the last one the check digit of annex 6.
-fn checked(dice: &mut Dice, digits: usize) -> String {
-    let mut text: String = (1..digits).map(|_| char::from(b'0' + dice.below(10) as u8)).collect();
+/// The digits and their check digit by annex 6.
+pub fn with_check_digit(mut digits: String) -> String {
     let weights = [9, 7, 3, 1].into_iter().cycle();
-    let sum: u32 = text
+    let sum: u32 = digits
         .bytes()
         .zip(weights)
         .map(|(b, weight)| u32::from(b - b'0') * weight)
         .sum();
-    text.push(char::from(b'0' + ((10 - sum % 10) % 10) as u8));
-    text
+    digits.push(char::from(b'0' + ((10 - sum % 10) % 10) as u8));
+    digits
+}
+
+/// So many digits, the last one the check digit of annex 6.
+fn checked(dice: &mut Dice, digits: usize) -> String {
+    with_check_digit((1..digits).map(|_| char::from(b'0' + dice.below(10) as u8)).collect())
 }
 
 pub fn given(banks: usize) -> Given {
@@ -96,7 +100,7 @@ fn put(out: &mut Vec<u8>, text: &[u8], width: usize) {
 }
 
 /// An account of sixteen digits, or one time in three of eight digits and eight spaces.
-fn account(dice: &mut Dice) -> String {
+pub fn account(dice: &mut Dice) -> String {
     let digits = if dice.below(3) == 0 { 8 } else { 16 };
     checked(dice, digits)
 }

@@ -1,6 +1,8 @@
 //! The proved library, by its C entries (include/nshanvekh.h). A slice is a pointer and a length.
 
+use crate::cover::Cover;
 use crate::messages::Given;
+use crate::plain::Asked;
 
 const SESSION_BYTES: usize = 344;
 
@@ -63,6 +65,35 @@ extern "C" {
         out_len: usize,
         numbers: *mut u64,
         numbers_len: usize,
+    ) -> u32;
+
+    fn nsh_fedjel(
+        message: *const u8,
+        message_len: usize,
+        day: u32,
+        requests: *const u8,
+        requests_len: usize,
+        table: *mut u8,
+        table_len: usize,
+        numbers: *mut u64,
+        numbers_len: usize,
+    ) -> u32;
+
+    fn nsh_fedsta(
+        message: *const u8,
+        message_len: usize,
+        day: u32,
+        requests: *const u8,
+        requests_len: usize,
+        id: *const u8,
+        id_len: usize,
+        cover: u8,
+        duplicate: u8,
+        number: u32,
+        time: u32,
+        count: u32,
+        out: *mut u8,
+        out_len: usize,
     ) -> u32;
 }
 
@@ -176,4 +207,46 @@ pub fn reply(given: &Given, message: &[u8], duplicate: u8, number: u32, time: u3
         )
     };
     (refusal, length[0])
+}
+
+/// The refusal's number or 0; the numbers are the message code and the number of items, and stay where it is refused.
+pub fn judge_fedjel(cover: &Cover, table: &mut [u8], numbers: &mut [u64; 2]) -> u32 {
+    // SAFETY: as in `judge`.
+    unsafe {
+        nsh_fedjel(
+            cover.message.as_ptr(),
+            cover.message.len(),
+            cover.day,
+            cover.requests.as_ptr(),
+            cover.requests.len(),
+            table.as_mut_ptr(),
+            table.len(),
+            numbers.as_mut_ptr(),
+            numbers.len(),
+        )
+    }
+}
+
+/// The refusal's number or 0.
+pub fn write_fedsta(cover: &Cover, asked: &Asked, out: &mut [u8]) -> u32 {
+    let particulars = &asked.particulars;
+    // SAFETY: as in `judge`.
+    unsafe {
+        nsh_fedsta(
+            cover.message.as_ptr(),
+            cover.message.len(),
+            cover.day,
+            cover.requests.as_ptr(),
+            cover.requests.len(),
+            asked.id.as_ptr(),
+            asked.id.len(),
+            u8::from(asked.cover),
+            particulars.duplicate,
+            particulars.number,
+            particulars.time,
+            asked.count,
+            out.as_mut_ptr(),
+            out.len(),
+        )
+    }
 }

@@ -6,3 +6,5 @@ pub mod Over
 pub mod Put
 pub mod Written
 pub mod Tables
+pub mod Groups
+pub mod Order

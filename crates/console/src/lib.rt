@@ -1,9 +1,14 @@
-// What the programs share of input and output: a file's bytes into lent space, standard output and standard error. No contract can say
-// what is written to a stream, so the functions that only write have none.
+// What the programs share of input and output: a file's bytes into lent space, the number of an argument, standard output and standard
+// error; and for those that take a FEDJEL what they hold (`fedjel`). No contract can say what is written to a stream, so the functions that
+// only write have none.
+ghost use mathlib.Core.Path.{_≡_};
 ghost use Rattle.io.specs.Counts.{Counts};
+ghost use Rattle.console.specs.Arguments.{numberOfWord};
 use lent::Refusal;
 use libc::STDERR_FILENO;
 use libc::STDOUT_FILENO;
+
+pub mod fedjel;
 
 // A file's bytes at the front of the space, and how many; none of a file that is missing or can't be read.
 pub fn read_file(path: &[u8], space: &mut [u8]) -> usize
@@ -16,6 +21,26 @@ pub fn read_file(path: &[u8], space: &mut [u8]) -> usize
     let n = io::read_full(fd, space);
     libc::close(fd);
     n
+}
+
+// What an argument of digits says.
+pub enum Argument {
+    Number(u32),
+    Wrong,
+}
+
+// The number of so many digits at least and at most, and never more than nine, which a u32 holds.
+pub fn number_of(s: &[u8], least: usize, most: usize) -> Argument
+    ensures { λ r. ⌜ r ≡ numberOfWord least most (now (s .entry)) ⌝ }
+{
+    if !((s.len() >= least) & ((s.len() <= most) & (s.len() <= 9))) {
+        return Argument::Wrong;
+    }
+    if !digits::is_digits(s) {
+        return Argument::Wrong;
+    }
+    let n = digits::number(s) as u32;
+    Argument::Number(n)
 }
 
 // Bytes on standard output.

@@ -28,7 +28,7 @@ pub enum Given {
 }
 
 // The date that `day` says, 0 for none.
-fn day(s: &[u8]) -> u32
+pub fn day(s: &[u8]) -> u32
     ensures { λ r. ⌜ r ≡ dayOf (now (s .entry)) ⌝ }
 {
     match calendar::read_date(s) {

@@ -38,6 +38,9 @@ refusalNumber refusal.Address = 7
 refusalNumber refusal.Particulars = 8
 refusalNumber refusal.Room = 9
 refusalNumber refusal.Malformed = 10
+refusalNumber refusal.RequestList = 11
+refusalNumber refusal.Fedjel = 12
+refusalNumber refusal.Standing = 13
 
 -- the number of an outcome: 0, or the refusal's
 abbrev pub outcomeNumber : Outcome → ℕ

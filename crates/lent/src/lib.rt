@@ -1,4 +1,4 @@
-// What is lent to a judging, which of it is refused, and why a call is refused (01, Calls and their answers).
+// What is lent to a judging, which of it is refused, and why a call is refused (01, Calls and their answers; 02 #103).
 ghost use mathlib.Core.Path.{_≡_};
 ghost use Rattle.lent.specs.Lent.{refusalNumber, listed, listRefused};
 
@@ -17,15 +17,21 @@ pub enum Refusal {
     Overflow,
     // The message has no address for a reply.
     Address,
-    // Duplicate code, number or time of a reply.
+    // Duplicate code, number or time of a reply or a FEDSTA, or a FEDSTA's count.
     Particulars,
-    // The output is shorter than the reply, or the table than the references.
+    // The output is shorter than the reply or the FEDSTA, or the table than the references or a FEDJEL's items.
     Room,
     // Not a STATUS message, or not a single head or item by its length.
     Malformed,
+    // The request list's length isn't a multiple of 65, a sum isn't digits, or an identifier stands twice (02 #103).
+    RequestList,
+    // Lengths or endings aren't a FEDJEL's (02 #103).
+    Fedjel,
+    // No such request, no standing answer to it, or answer 1 and no cover (02 #103).
+    Standing,
 }
 
-// The number that 01 gives the refusal.
+// The number that 01 or 02 gives the refusal.
 pub fn number(r: Refusal) -> u8
     ensures { λ n. ⌜ n ≡ refusalNumber r ⌝ }
 {
@@ -40,6 +46,9 @@ pub fn number(r: Refusal) -> u8
         Refusal::Particulars => 8,
         Refusal::Room => 9,
         Refusal::Malformed => 10,
+        Refusal::RequestList => 11,
+        Refusal::Fedjel => 12,
+        Refusal::Standing => 13,
     }
 }
 

@@ -1,4 +1,4 @@
--- Examples of numbers, of slips and of a STATUS in words, the empty message's five lines among them, each group computed at once.
+-- Examples of numbers, of slips, of a STATUS and of a FEDJEL in words, the empty message's five lines among them, each group computed at once.
 -- Assumes nothing.
 use Prim.Native.Nat.{ℕ}
 use mathlib.Core.Path.{_≡_, refl}
@@ -11,6 +11,7 @@ use Rattle.kinds.specs.Kinds.{ATUTAL, BESZED}
 use Rattle.lent.specs.declared.Refusal.the-variants.{NotADay, Overflow}
 use Rattle.lines.specs.Slip.{lineEnd, places, slipOf, refusalLine}
 use Rattle.lines.specs.Facts.{orderLine, addressLines, ownLines, countLines, statusText, itemLine}
+use Rattle.lines.specs.Cover.{verdictLines, standingLine, answerLine}
 
 -- how many digits
 pub digits : map places (0 ∷ 9 ∷ 10 ∷ 99 ∷ 100 ∷ 18446744073709551615 ∷ []) ≡ 1 ∷ 1 ∷ 2 ∷ 2 ∷ 3 ∷ 20 ∷ []
@@ -71,3 +72,15 @@ status = refl
 pub references : map (itemLine 2) (0 ∷ 61 ∷ []) ≡ (ascii "ITEM 2 00" ++ lineEnd) ∷ (ascii "ITEM 2 61" ++ lineEnd) ∷ []
 unfolding itemLine figures places
 references = refl
+
+-- a FEDJEL of two items with code 00
+pub verdict : verdictLines 0 2 ≡ ascii "MESSAGE 00" ++ lineEnd ++ ascii "ITEMS 2" ++ lineEnd
+unfolding verdictLines figures places
+verdict = refl
+
+-- items of one: a standing answer, and a repeated one; and of a FEDJEL with code 18
+pub answers :
+    answerLine 0 1 0 0x31 ∷ answerLine 0 2 75 0x31 ∷ answerLine 18 1 0 0x31 ∷ []
+    ≡ (ascii "ITEM 1 00 STANDS 1" ++ lineEnd) ∷ (ascii "ITEM 2 75" ++ lineEnd) ∷ (ascii "ITEM 1 00" ++ lineEnd) ∷ []
+unfolding answerLine standingLine itemLine figures places
+answers = refl

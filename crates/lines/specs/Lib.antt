@@ -1,3 +1,4 @@
 pub mod Slip
 pub mod Facts
+pub mod Cover
 pub mod Examples

@@ -20,7 +20,7 @@ use crate::slip::put_totals;
 use frame::Status;
 
 // How many digits a number gets that is to have at least so many.
-fn width(least: usize, n: u64) -> usize
+pub(crate) fn width(least: usize, n: u64) -> usize
     ensures { λ r. ⌜ (r ≡ wide least n) × (r ≤ least + 20) × (n < 10 ^ r) ⌝ }
 {
     let w = places(n);
@@ -31,7 +31,7 @@ fn width(least: usize, n: u64) -> usize
 }
 
 // A word, a number of at least so many digits, 0Ah.
-fn put_fact(out: &mut [u8], at: usize, word: &[u8], least: usize, n: u64) -> usize
+pub(crate) fn put_fact(out: &mut [u8], at: usize, word: &[u8], least: usize, n: u64) -> usize
     requires { ⌜ at + length (fact (now word) least n) ≤ length (now out) ⌝ }
     ensures { λ r. ⌜ Put (now (out .entry)) at (fact (now (word .entry)) least n) r (now (out .exit)) ⌝ }
 {
@@ -39,7 +39,7 @@ fn put_fact(out: &mut [u8], at: usize, word: &[u8], least: usize, n: u64) -> usi
 }
 
 // Three texts, one after the other.
-fn put_three(out: &mut [u8], at: usize, a: &[u8], b: &[u8], c: &[u8]) -> usize
+pub(crate) fn put_three(out: &mut [u8], at: usize, a: &[u8], b: &[u8], c: &[u8]) -> usize
     requires { ⌜ at + length (now a ++ now b ++ now c) ≤ length (now out) ⌝ }
     ensures { λ r. ⌜ Put (now (out .entry)) at (now (a .entry) ++ now (b .entry) ++ now (c .entry)) r (now (out .exit)) ⌝ }
 {

@@ -1,3 +1,4 @@
-// Lines of text for people: the slip (`slip`) and what a STATUS says (`facts`).
+// Lines of text for people: the slip (`slip`), what a STATUS says (`facts`) and what is found of a FEDJEL (`cover`).
+pub mod cover;
 pub mod facts;
 pub mod slip;

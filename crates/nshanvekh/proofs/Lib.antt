@@ -4,3 +4,4 @@ pub mod Sessions
 pub mod Messages
 pub mod ByPieces
 pub mod Refusals
+pub mod CoverCalls

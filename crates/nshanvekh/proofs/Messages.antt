@@ -12,7 +12,8 @@ use Rattle.lent.specs.Lent.{Lent, outcomeNumber}
 use Rattle.judge.specs.declared.Judged.{Judged}
 use Rattle.judge.specs.Session.{JudgedAs}
 use Rattle.status.specs.declared.reply.Answer.{Answer}
-use Rattle.status.specs.Reply.{replyNumber, Replied}
+use Rattle.status.specs.declared.reply.Particulars.{Particulars}
+use Rattle.status.specs.Reply.{replyNumber, answer as answerOf, output, Replied}
 use Rattle.reading.specs.declared.Read.{Read}
 use Rattle.reading.specs.Reading.{ReadAs}
 use Rattle.nshanvekh.specs.Session.{closingNumbers, Told}
@@ -58,14 +59,15 @@ module _ {m : List ℕ} {l : Lent} {d n t : ℕ} {out ns : List ℕ} where
       let q = ne-eqb (length ns) 1 h in
       record { told = rw q; bytes = rw q; numbers = rw q }
 
-  pub reply-told : length ns ≡ 1 → {a : Answer} {out′ : List ℕ} → Replied l m (particularsOf d n t) out a out′
+  pub reply-told : length ns ≡ 1 → {p : Particulars} → p ≡ particularsOf d n t → {a : Answer} {out′ : List ℕ} → Replied l m p out a out′
       → {r : ℕ} {ns′ : List ℕ} → ReplyTold a ns r ns′ → RepliedAs m l d n t out ns r out′ ns′
-  reply-told h w o =
+  reply-told h {p} e {a} w o =
       let q = eq-eqb (length ns) 1 h in
+      let k : a ≡ answerOf l m (particularsOf d n t) out = w .result ∙ ap (λ (x : Particulars). answerOf l m x out) e in
       record {
-        told = rw q (o .answer ∙ ap replyNumber (w .result));
-        bytes = rw q (w .bytes);
-        numbers = rw q (o .numbers ∙ ap (λ (y : Answer). replyNumbers y ns) (w .result));
+        told = rw q (o .answer ∙ ap replyNumber k);
+        bytes = rw q (w .bytes ∙ ap (λ (x : Particulars). output l m x out) e);
+        numbers = rw q (o .numbers ∙ ap (λ (y : Answer). replyNumbers y ns) k);
       }
 
 module _ {x t ns id : List ℕ} where

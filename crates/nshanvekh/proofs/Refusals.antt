@@ -9,13 +9,16 @@ use Rattle.base.specs.Tables.{Row, firstGiven}
 use Rattle.lent.specs.Lent.{Lists, Lent}
 use Rattle.judge.specs.Refusals.{openRefusals, pieceRefusals, closeRefusals, wholeRefusals}
 use Rattle.judge.proofs.Refusals as judge
-use Rattle.status.specs.Refusals.{replyRefusals}
+use Rattle.cover.specs.Refusals.{judgeRefusals}
+use Rattle.cover.proofs.Refusals as cover
+use Rattle.status.specs.Refusals.{replyRefusals, fedstaRefusals}
 use Rattle.status.proofs.Refusals as status
 use Rattle.reading.specs.Refusals.{readRefusals}
 use Rattle.reading.proofs.Refusals as reading
 use Rattle.packed.specs.Packed.{packedBytes, unpacked}
 use Rattle.nshanvekh.specs.Session.{sized, wrongSize, OpenedAs, PieceAs, sizedAll, ClosedAs}
 use Rattle.nshanvekh.specs.Message.{sizedBoth, JudgedNumbers, particularsOf, RepliedAs, StatusAs}
+use Rattle.nshanvekh.specs.Covers.{FedjelAs, isYes, FedstaAs}
 
 -- 99 where the sizes aren't right, and then the rows of the call below
 abbrev pub sizedThen : Bool → List Row → ℕ
@@ -55,3 +58,15 @@ reply {m} {l} {d} {n} {t} {out} {ns} w =
 pub read-status : {x t ns id : List ℕ} {r : ℕ} {t′ ns′ id′ : List ℕ} → StatusAs x t ns id r t′ ns′ id′
     → r ≡ sizedThen (sizedBoth ns 10 id) (readRefusals x t)
 read-status {x} {t} {ns} {id} w = sized-first (sizedBoth ns 10 id) (readRefusals x t) (w .answer) (reading.status x t)
+
+-- judging a FEDJEL: 99, 1, 11, 12, 9
+pub fedjel : {m : List ℕ} {e : ℕ} {l t ns : List ℕ} {r : ℕ} {t′ ns′ : List ℕ} → FedjelAs m e l t ns r t′ ns′
+    → r ≡ sizedThen (sized ns 2) (judgeRefusals e l m t)
+fedjel {m} {e} {l} {t} {ns} w = sized-first (sized ns 2) (judgeRefusals e l m t) (w .answer) (cover.judging e l m t)
+
+-- writing a FEDSTA: 99, 1, 11, 12, 13, 8, 9
+pub fedsta : {m : List ℕ} {e : ℕ} {l id : List ℕ} {cover d n t count : ℕ} {out : List ℕ} {r : ℕ} {out′ : List ℕ}
+    → FedstaAs m e l id cover d n t count out r out′ → r ≡ sizedThen (sized id 25) (fedstaRefusals e l m id (isYes cover) (particularsOf d n t) count out)
+fedsta {m} {e} {l} {id} {cover} {d} {n} {t} {count} {out} w =
+    let p = particularsOf d n t in
+    sized-first (sized id 25) (fedstaRefusals e l m id (isYes cover) p count out) (w .answer) (status.fedsta e l m id (isYes cover) p count out)

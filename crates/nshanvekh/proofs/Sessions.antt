@@ -58,6 +58,9 @@ if-done (Refused refusal.Address) new old = refl
 if-done (Refused refusal.Particulars) new old = refl
 if-done (Refused refusal.Room) new old = refl
 if-done (Refused refusal.Malformed) new old = refl
+if-done (Refused refusal.RequestList) new old = refl
+if-done (Refused refusal.Fedjel) new old = refl
+if-done (Refused refusal.Standing) new old = refl
 
 module _ {x p : List ℕ} {l : Lists} {t : List ℕ} where
   pub piece-wrong : (length x ≡ packedBytes → ⊥) → PieceAs x p l t 99 x t

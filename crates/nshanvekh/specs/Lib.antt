@@ -1,3 +1,4 @@
 pub mod Session
 pub mod Message
 pub mod Pieces
+pub mod Covers

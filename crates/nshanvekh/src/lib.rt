@@ -5,7 +5,8 @@ ghost use lib.ListN.{length};
 ghost use Rattle.single.specs.Single.{singleAnswer};
 ghost use Rattle.lent.specs.Lent.{outcomeNumber, listed, lent};
 ghost use Rattle.nshanvekh.specs.Session.{OpenedAs, PieceAs, ClosedAs, Told};
-ghost use Rattle.nshanvekh.specs.Message.{JudgedNumbers, RepliedAs, StatusAs, StatusTold, ReplyTold};
+ghost use Rattle.nshanvekh.specs.Covers.{FedjelTold, FedjelAs, FedstaAs};
+ghost use Rattle.nshanvekh.specs.Message.{JudgedNumbers, particularsOf, RepliedAs, StatusAs, StatusTold, ReplyTold};
 ghost use Rattle.single.specs.Numbers.{singleNumber};
 use frame::Closing;
 use frame::Status;
@@ -140,6 +141,17 @@ pub extern "C" fn nsh_single(
     single::number(single::answer(x, place as u64, kind, day, banks, known))
 }
 
+// What a caller says of a reply or a FEDSTA.
+fn particulars(duplicate: u8, number: u32, time: u32) -> Particulars
+    ensures { λ r. ⌜ r ≡ particularsOf duplicate number time ⌝ }
+{
+    Particulars {
+        duplicate: duplicate,
+        number: number,
+        time: time,
+    }
+}
+
 // The reply's length is written, or the refusal told.
 fn tell_reply(a: Answer, numbers: &mut [u64]) -> u32
     requires { ⌜ length (now numbers) ≡ 1 ⌝ }
@@ -173,11 +185,7 @@ pub extern "C" fn nsh_reply(
     if numbers.len() != 1 {
         return 99;
     }
-    let p = Particulars {
-        duplicate: duplicate,
-        number: number,
-        time: time,
-    };
+    let p = particulars(duplicate, number, time);
     tell_reply(
         status::reply::write(day, banks, known, message, p, out),
         numbers,
@@ -227,4 +235,64 @@ pub extern "C" fn nsh_read_status(
     let o = x.outcome;
     let s = x.status;
     tell_status(number_of(o), s, numbers, id)
+}
+
+// What judging a FEDJEL gives is written, or the refusal told.
+fn tell_fedjel(a: cover::Answer, numbers: &mut [u64]) -> u32
+    requires { ⌜ length (now numbers) ≡ 2 ⌝ }
+    ensures { λ r. ⌜ FedjelTold a (now (numbers .entry)) r (now (numbers .exit)) ⌝ }
+{
+    match a {
+        cover::Answer::Refused(r) => lent::number(r) as u32,
+        cover::Answer::Judged { code, items } => {
+            numbers[0] = code as u64;
+            numbers[1] = items as u64;
+            0
+        }
+    }
+}
+
+// A FEDJEL is judged, whole: refusals 99, 1, 11, 12, 9. The k-th item's code goes to byte k of the table; a refusal alters nothing (02 #103).
+#[no_mangle]
+pub extern "C" fn nsh_fedjel(
+    message: &[u8],
+    day: u32,
+    requests: &[u8],
+    table: &mut [u8],
+    numbers: &mut [u64],
+) -> u32
+    ensures { λ r. ⌜ FedjelAs (now (message .entry)) day (now (requests .entry)) (now (table .entry)) (now (numbers .entry))
+        r (now (table .exit)) (now (numbers .exit)) ⌝ }
+{
+    if numbers.len() != 2 {
+        return 99;
+    }
+    tell_fedjel(cover::judge(day, requests, message, table), numbers)
+}
+
+// The FEDSTA of a request goes to the front of the output: refusals 99, 1, 11, 12, 13, 8, 9. Cover is yes for 1 alone, so that a stray value
+// pays nothing (02 #103).
+#[no_mangle]
+pub extern "C" fn nsh_fedsta(
+    message: &[u8],
+    day: u32,
+    requests: &[u8],
+    id: &[u8],
+    cover: u8,
+    duplicate: u8,
+    number: u32,
+    time: u32,
+    count: u32,
+    out: &mut [u8],
+) -> u32
+    ensures { λ r. ⌜ FedstaAs (now (message .entry)) day (now (requests .entry)) (now (id .entry)) cover duplicate number time count (now (out .entry))
+        r (now (out .exit)) ⌝ }
+{
+    if id.len() != 25 {
+        return 99;
+    }
+    let p = particulars(duplicate, number, time);
+    let mut own = [0u8; 25];
+    text::put(&mut own, id);
+    number_of(status::fedsta::write(day, requests, message, own, cover == 1, p, count, out))
 }

@@ -9,7 +9,7 @@ use lib.Dec.{leb, eqb}
 use lib.ListN.{length, take, drop, getD, length-append}
 use lib.Seq.{take-at, drop-at}
 use borrow.Author.Tests.{le-leb, eq-eqb}
-use Rattle.base.specs.Bytes.{field}
+use Rattle.base.specs.Bytes.{ascii, field}
 use Rattle.digits.specs.Digits.{numberOf}
 use Rattle.judge.specs.Session.{most}
 use Rattle.frame.specs.declared.Status.{Status}
@@ -104,10 +104,16 @@ module _ (s : Status) (cs : List ℕ) (rs : List (List ℕ)) (k : Readable s cs)
   abbrev after : List ℕ
   after = references 1 cs rs ++ footRecord s
 
+  abbrev head : List ℕ
+  head = headRecord (ascii "STATUS") s
+
+  head-long : length head ≡ 56
+  head-long = head-length (ascii "STATUS") s refl (k .long)
+
   -- the head and what is after it
-  split : x ≡ headRecord s ++ after
+  split : x ≡ head ++ after
   unfolding written
-  split = append-assoc (headRecord s) (references 1 cs rs) (footRecord s)
+  split = append-assoc head (references 1 cs rs) (footRecord s)
 
   whole-length : length x ≡ 104 + 65 * length rs
   whole-length = written-length s cs rs (k .long) e h
@@ -115,22 +121,21 @@ module _ (s : Status) (cs : List ℕ) (rs : List (List ℕ)) (k : Readable s cs)
   pub count-is : countOf x ≡ length rs
   count-is = rw whole-length (omega arith)
 
-  head-is : headIn x ≡ headRecord s
-  head-is = ap (take 56) split ∙ take-at (headRecord s) after 56 (head-length s (k .long))
+  head-is : headIn x ≡ head
+  head-is = ap (take 56) split ∙ take-at head after 56 head-long
 
   references-are : referencesIn x ≡ listed 1 cs rs
   references-are =
       ap (λ (n : ℕ). partsOf n (drop 56 x)) count-is
-      ∙ ap (λ (y : List ℕ). partsOf (length rs) y) (ap (drop 56) split ∙ drop-at (headRecord s) after 56 (head-length s (k .long)))
+      ∙ ap (λ (y : List ℕ). partsOf (length rs) y) (ap (drop 56) split ∙ drop-at head after 56 head-long)
       ∙ in-listed 1 cs rs (footRecord s) e h
 
   foot-is : footIn x ≡ footRecord s
   unfolding written
   foot-is =
-      let a = head-length s (k .long) in
       let b = references-length 1 cs rs (omega (arith, e)) h in
-      let l : length (headRecord s ++ references 1 cs rs) ≡ 56 + 65 * length rs = rw (length-append, a, b) in
-      ap (λ (n : ℕ). drop (56 + 65 * n) x) count-is ∙ drop-at (headRecord s ++ references 1 cs rs) (footRecord s) (56 + 65 * length rs) l
+      let l : length (head ++ references 1 cs rs) ≡ 56 + 65 * length rs = rw (length-append, head-long, b) in
+      ap (λ (n : ℕ). drop (56 + 65 * n) x) count-is ∙ drop-at (head ++ references 1 cs rs) (footRecord s) (56 + 65 * length rs) l
 
   -- the codes of the references
   pub codes-read : codesIn x ≡ cs
@@ -165,13 +170,13 @@ module _ (s : Status) (cs : List ℕ) (rs : List (List ℕ)) (k : Readable s cs)
   unfolding isStatus
   is-status =
       let q : (length x - 104) % 65 ≡ 0 = rw whole-length (omega arith) in
-      let r : headRight (headRecord s ++ []) ≡ true = head-right s (k .long) [] (k .duplicate) (k .address) in
+      let r : headRight (head ++ []) ≡ true = head-right s (k .long) [] (k .duplicate) (k .address) in
       let m : 1 + length cs ≤ 10 ^ 6 = omega (arith, k .most) in
       all-six (leb 104 (length x)) (eqb ((length x - 104) % 65) 0) (headRight (headIn x)) (referencesRight 1 (referencesIn x)) (footRight (footIn x))
       (countsRight (statusIn x) (codesIn x))
       (le-leb 104 (length x) (omega (arith, whole-length)))
       (eq-eqb ((length x - 104) % 65) 0 q)
-      (ap headRight (head-is ∙ sym (append-nil (headRecord s))) ∙ r)
+      (ap headRight (head-is ∙ sym (append-nil head)) ∙ r)
       (ap (referencesRight 1) references-are ∙ listed-right 1 cs rs e h m)
       (ap footRight foot-is ∙ foot-right s)
       (ap (λ (t : Status). countsRight t (codesIn x)) status-read ∙ ap (countsRight s) codes-read ∙ k .counts)

@@ -41,7 +41,7 @@ eight-wide a b c d e f g h y = simp (append-assoc, append-nil)
 -- the head, with y after it
 module _ (s : Status) (h : length (s .id) ≡ 25) (y : List ℕ) where
   abbrev x : List ℕ
-  x = headRecord s ++ y
+  x = headRecord (ascii "STATUS") s ++ y
 
   abbrev parts : List Part
   parts =

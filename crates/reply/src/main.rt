@@ -1,7 +1,8 @@
 // Writes the STATUS reply to the message on standard input: reply DUPLICATE NUMBER TIME. The clearing day and the lists stand in the
 // files `day`, `banks` and `known` of the folder where it runs. Refusals and wrong arguments go to standard error (01, Calls and their
 // answers; Examples).
-ghost use Prim.Native.Nat.{_≤_};
+use console::Argument;
+use console::number_of;
 use console::put;
 use console::read_file;
 use console::refuse;
@@ -75,28 +76,6 @@ fn with_files(p: Particulars) {
     let b = read_file(b"banks", &mut banks);
     let k = read_file(b"known", &mut known);
     given(&day[..d], &banks[..b], &known[..k], p);
-}
-
-// What an argument of digits says.
-enum Argument {
-    Number(u32),
-    Wrong,
-}
-
-// The number of so many digits at least and at most.
-fn number_of(s: &[u8], least: usize, most: usize) -> Argument
-    requires { ⌜ most ≤ 9 ⌝ }
-{
-    if s.len() < least {
-        return Argument::Wrong;
-    }
-    if s.len() > most {
-        return Argument::Wrong;
-    }
-    if !digits::is_digits(s) {
-        return Argument::Wrong;
-    }
-    Argument::Number(digits::number(s) as u32)
 }
 
 // The arguments, as text: one character; one to four digits; six digits. What they say is judged with the message (refusal 8).

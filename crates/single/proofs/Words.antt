@@ -51,6 +51,9 @@ refusal-small refusal.Address = lit< tt
 refusal-small refusal.Particulars = lit< tt
 refusal-small refusal.Room = lit< tt
 refusal-small refusal.Malformed = lit< tt
+refusal-small refusal.RequestList = lit< tt
+refusal-small refusal.Fedjel = lit< tt
+refusal-small refusal.Standing = lit< tt
 
 small : (a : Answer) → answerNumber a < 100
 small answer.Accepted = lit< tt

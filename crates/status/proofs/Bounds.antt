@@ -207,17 +207,17 @@ module _ (l : Lent) (t m : List ℕ) where
         go false q = rw (none-counted (eqb-false (v .code) 0 q) .0)
 
 -- the date and the particulars fit
-date-lt : (e : ℕ) → isDate e ≡ true → e < 10 ^ 8
+pub date-lt : (e : ℕ) → isDate e ≡ true → e < 10 ^ 8
 date-lt e d = let h = parts e d .last-year in omega arith
 
-number-lt : (p : Particulars) → areParticulars p ≡ true → p .number < 10 ^ 4
+pub number-lt : (p : Particulars) → areParticulars p ≡ true → p .number < 10 ^ 4
 unfolding areParticulars
 number-lt p h =
     let a = both (isDuplicate (p .duplicate)) _ h in
     let b = both (leb (p .number) 9999) _ (a .1) in
     omega (arith, leb-true (p .number) 9999 (b .0))
 
-time-lt : (p : Particulars) → areParticulars p ≡ true → p .time < 10 ^ 6
+pub time-lt : (p : Particulars) → areParticulars p ≡ true → p .time < 10 ^ 6
 unfolding areParticulars isTime
 time-lt p h =
     let a = both (isDuplicate (p .duplicate)) _ h in

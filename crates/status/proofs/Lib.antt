@@ -7,3 +7,5 @@ pub mod Judging
 pub mod SessionVerdict
 pub mod Granted
 pub mod Refusals
+pub mod CoverWriting
+pub mod CoverOrder

@@ -1,4 +1,4 @@
--- The records of a STATUS message, each with its ending (002 sections 3.1 to 3.3; 01, Records).
+-- The records of a STATUS message, each with its ending (002 sections 3.1 to 3.3; 01, Records); FEDSTA has the same head and foot (002 4.1, 4.2).
 -- Assumes nothing.
 use Prim.Native.Nat.{ℕ, _+_}
 use mathlib.Core.Bool.{Bool}
@@ -10,10 +10,11 @@ use Rattle.digits.specs.Digits.{figures}
 use Rattle.frame.specs.Records.{ending}
 use Rattle.frame.specs.declared.Status.{Status}
 
--- 3.1, the head, 54
-unfoldable pub headRecord : Status → List ℕ
-headRecord s =
-    ascii "01STATUS"  -- F220, F221: 1-8
+-- 3.1, the head, 54, with the six letters of its message type; 4.1 has the same places for FEDSTA
+unfoldable pub headRecord : List ℕ → Status → List ℕ
+headRecord kind s =
+    ascii "01"  -- F220: 1-2
+    ++ kind  -- F221: 3-8
     ++ (s .duplicate ∷ [])  -- F222: 9
     ++ s .id  -- F223, F224: 10-34, the order's own positions 10-34
     ++ figures 8 (s .date)  -- F225.1: 35-42
@@ -38,7 +39,7 @@ references k [] rs = []
 references k (c ∷ cs) [] = []
 references k (c ∷ cs) (r ∷ rs) = reference k c r ++ references (k + 1) cs rs
 
--- 3.2, the foot, 46
+-- 3.2, the foot, 46; 4.2 has the same places for FEDSTA
 unfoldable pub footRecord : Status → List ℕ
 footRecord s =
     ascii "03"  -- Z220: 1-2
@@ -50,7 +51,7 @@ footRecord s =
 
 -- the head, a reference for each item with its code, the foot
 unfoldable pub written : Status → List ℕ → List (List ℕ) → List ℕ
-written s codes items = headRecord s ++ references 1 codes items ++ footRecord s
+written s codes items = headRecord (ascii "STATUS") s ++ references 1 codes items ++ footRecord s
 
 -- the bytes of positions 10-34 (01, refusal 7)
 abbrev pub isAddress : List ℕ → Bool

@@ -11,8 +11,8 @@ use Rattle.judge.specs.Session.{most}
 use Rattle.frame.specs.declared.Status.{Status}
 
 -- positions 1-34 of the head, and the rest with its ending
-unfoldable pub address : ℕ → List ℕ → List ℕ
-address duplicate id = ascii "01STATUS" ++ (duplicate ∷ []) ++ id
+unfoldable pub address : List ℕ → ℕ → List ℕ → List ℕ
+address kind duplicate id = ascii "01" ++ kind ++ (duplicate ∷ []) ++ id
 
 unfoldable pub own : Status → List ℕ
 own s = figures 8 (s .date) ++ figures 4 (s .number) ++ figures 6 (s .time) ++ figures 2 (s .code) ++ ending

@@ -6,11 +6,12 @@ ghost use Rattle.base.specs.Bytes.{over};
 ghost use Rattle.frame.specs.Records.{lengths, itemsOf};
 ghost use Rattle.lent.specs.Lent.{lent};
 ghost use Rattle.judge.specs.Session.{most};
-ghost use Rattle.status.specs.Records.{headRecord, reference, references, footRecord, written};
+ghost use Rattle.status.specs.Records.{reference, references, written};
 ghost use Rattle.status.specs.Reply.{hasAddress, isTime, areParticulars, saying, Replied};
-ghost use Rattle.status.specs.Writing.{address, own, totals, Countable, Writable, Referable};
+ghost use Rattle.status.specs.Writing.{Writable, Referable};
+use crate::records::put_foot;
+use crate::records::put_head;
 use frame::Status;
-use frame::Totals;
 use judge::Session;
 use lent::Outcome;
 use lent::Refusal;
@@ -28,38 +29,6 @@ pub enum Answer {
     Refused(Refusal),
 }
 
-// Positions 1-34 of the head: its type, the message type, the duplicate code and the order's address.
-fn put_address(out: &mut [u8], duplicate: u8, id: &[u8])
-    requires { ⌜ (34 ≤ length (now out)) × (length (now id) ≡ 25) ⌝ }
-    ensures { λ _. ⌜ now (out .exit) ≡ over (now (out .entry)) 0 (address duplicate (now (id .entry))) ⌝ }
-{
-    text::put_at(out, 0, b"01STATUS");
-    text::put_at(out, 8, &[duplicate]);
-    text::put_at(out, 9, id);
-}
-
-// Positions 35-54 of the head and its ending, at the front of what is lent.
-fn put_own(out: &mut [u8], s: Status)
-    requires { ⌜ (22 ≤ length (now out)) × Writable s ⌝ }
-    ensures { λ _. ⌜ now (out .exit) ≡ over (now (out .entry)) 0 (own s) ⌝ }
-{
-    digits::put_at(out, 0, 8, s.date as u64);
-    digits::put_at(out, 8, 4, s.number as u64);
-    digits::put_at(out, 12, 6, s.time as u64);
-    digits::put_at(out, 18, 2, s.code as u64);
-    text::put_at(out, 20, b"\r\n");
-}
-
-// The head, 54 bytes and its ending, at the front of what is lent.
-fn put_head(out: &mut [u8], s: Status)
-    requires { ⌜ (56 ≤ length (now out)) × Writable s ⌝ }
-    ensures { λ _. ⌜ now (out .exit) ≡ over (now (out .entry)) 0 (headRecord s) ⌝ }
-{
-    let id = s.id;
-    put_address(out, s.duplicate, &id);
-    put_own(&mut out[34..], s);
-}
-
 // A reference, 63 bytes and its ending, at the front of what is lent.
 fn put_reference(out: &mut [u8], place: u64, code: u8, item: &[u8])
     requires { ⌜ (65 ≤ length (now out)) × (length (now item) ≡ lengths .item) × (place < 10 ^ 6) × (code < 10 ^ 2) ⌝ }
@@ -71,29 +40,6 @@ fn put_reference(out: &mut [u8], place: u64, code: u8, item: &[u8])
     text::put_at(out, 10, b"                             ");
     text::put_at(out, 39, &item[50..74]);
     text::put_at(out, 63, b"\r\n");
-}
-
-// The four totals of a foot, 44 bytes, at the front of what is lent.
-fn put_totals(out: &mut [u8], accepted: Totals, refused: Totals)
-    requires { ⌜ (44 ≤ length (now out)) × Countable accepted × Countable refused ⌝ }
-    ensures { λ _. ⌜ now (out .exit) ≡ over (now (out .entry)) 0 (totals accepted refused) ⌝ }
-{
-    digits::put_at(out, 0, 6, accepted.count);
-    digits::put_at(out, 6, 16, accepted.sum);
-    digits::put_at(out, 22, 6, refused.count);
-    digits::put_at(out, 28, 16, refused.sum);
-}
-
-// The foot, 46 bytes and its ending, at the front of what is lent.
-fn put_foot(out: &mut [u8], s: Status)
-    requires { ⌜ (48 ≤ length (now out)) × Writable s ⌝ }
-    ensures { λ _. ⌜ now (out .exit) ≡ over (now (out .entry)) 0 (footRecord s) ⌝ }
-{
-    let a = s.accepted;
-    let r = s.refused;
-    text::put_at(out, 0, b"03");
-    put_totals(&mut out[2..], a, r);
-    text::put_at(out, 46, b"\r\n");
 }
 
 // The references of the first n items, one after the other from the front of what is lent.
@@ -120,7 +66,7 @@ fn put_reply(out: &mut [u8], s: Status, message: &[u8], codes: &[u8])
         ≡ over (now (out .entry)) 0 (written s (now (codes .entry)) (take (s .references) (itemsOf lengths (now (message .entry))))) ⌝ }
 {
     let n = s.references;
-    put_head(out, s);
+    put_head(out, b"STATUS", s);
     put_references(&mut out[56..], message, codes, n);
     let at = 56 + n * 65;
     put_foot(&mut out[at..], s);
@@ -144,7 +90,7 @@ fn is_time(t: u32) -> bool
 }
 
 // Duplicate code, number and time of a reply.
-fn are_particulars(p: Particulars) -> bool
+pub(crate) fn are_particulars(p: Particulars) -> bool
     ensures { λ r. ⌜ r ≡ areParticulars p ⌝ }
 {
     fields::is_duplicate(p.duplicate) & ((p.number <= 9999) & is_time(p.time))

@@ -1,7 +1,8 @@
-// Text fields: the letters of code page 852 that a message may hold, fields of spaces, fields of spaces and zeros; putting text.
+// Text fields: the letters of code page 852 that a message may hold, fields of spaces, fields of spaces and zeros; comparing and putting text.
 ghost use mathlib.Core.Path.{_≡_};
 ghost use lib.Dec.{leb};
 ghost use lib.ListN.{length};
+ghost use Rattle.base.specs.Bytes.{same};
 ghost use Rattle.text.specs.Text.{
   letter,
   isPlain,
@@ -102,6 +103,22 @@ pub fn is_blank_or_zero(s: &[u8]) -> bool
         i += 1;
     }
     true
+}
+
+// Whether the two are the same. No branch on a byte, so that the compiler takes many at a time.
+pub fn is_same(s: &[u8], t: &[u8]) -> bool
+    ensures { λ r. ⌜ r ≡ same (now (s .entry)) (now (t .entry)) ⌝ }
+{
+    if s.len() != t.len() {
+        return false;
+    }
+    let mut ok = true;
+    let mut i = 0;
+    while i < s.len() {
+        ok = ok & (s[i] == t[i]);
+        i += 1;
+    }
+    ok
 }
 
 // The bytes at the front of what is lent. Where it is shorter, the answer is false and nothing is written.

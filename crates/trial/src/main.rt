@@ -1,10 +1,11 @@
 // Tries the cases of the script on standard input through the calls that a host in C links (include/nshanvekh.h): messages, judged
-// whole and by pieces, with the reply written and read back; single records; STATUS messages; a session, call by call; and what the slip
-// program prints. reference/cases.py prints the script; reference/trial.py gives the expected output and says what a line is.
+// whole and by pieces, with the reply written and read back; single records; STATUS messages; a session, call by call; cover answers; and
+// what the slip program prints. reference/cases.py prints the script; reference/trial.py gives the expected output and says what a line is.
 ghost use Prim.Native.Nat.{_≤_};
 ghost use lib.ListN.{length};
 
 mod calls;
+mod covers;
 mod cuts;
 mod pieces;
 mod reply;
@@ -31,7 +32,7 @@ use script::field;
 use script::fill;
 
 // Room for test data: the script; a base text, of 10,001 items and more; a text with changes; a reply to 10,000 items, and bytes after it.
-const SCRIPT: usize = 1048576;
+const SCRIPT: usize = 1310720;
 
 const BASE: usize = 2560000;
 
@@ -67,6 +68,8 @@ fn tried(
             put_next(nshanvekh::nsh_single(text, g.day, banks, known, place, kind) as u64)
         }
         b'f' => slip::print(text, r),
+        b'd' => covers::judged(text, r, g),
+        b'q' => covers::written(text, r, g, out),
         _ => stepped(command, text, r, g, banks, known, session),
     }
 }

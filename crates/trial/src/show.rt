@@ -9,6 +9,14 @@ pub(crate) fn put_numbers(s: &[u64]) {
     }
 }
 
+pub(crate) fn put_bytes(s: &[u8]) {
+    let mut i = 0;
+    while i < s.len() {
+        put_next(s[i] as u64);
+        i += 1;
+    }
+}
+
 // The sum of the bytes, and the sum of the sums of all beginnings.
 pub(crate) fn put_sums(s: &[u8]) {
     let mut sum: u64 = 0;

@@ -1,11 +1,13 @@
 //! The judge in plain Rust: the same rules, written as one writes Rust, without the proved library's tricks.
 
+mod cover;
 mod dates;
 mod fields;
 mod records;
 mod reply;
 mod session;
 
+pub use cover::{judge_fedjel, write_fedsta, Asked, FEDSTA};
 pub use records::Kind;
 pub use reply::{reply, Particulars};
 pub use session::{judge, Closing, Session};
@@ -30,7 +32,7 @@ impl Lists<'_> {
     }
 }
 
-/// Why a call is refused, by the numbers of 01.
+/// Why a call is refused, by the numbers of 01 and 02.
 #[derive(Clone, Copy, Debug, PartialEq, Eq)]
 pub enum Refusal {
     NotADay = 1,
@@ -41,4 +43,7 @@ pub enum Refusal {
     Address = 7,
     Particulars = 8,
     Room = 9,
+    RequestList = 11,
+    NotFedjel = 12,
+    NoStanding = 13,
 }

@@ -11,14 +11,14 @@ pub struct Particulars {
 }
 
 impl Particulars {
-    fn are_right(&self) -> bool {
+    pub(super) fn are_right(&self) -> bool {
         let (hours, minutes, seconds) = (self.time / 10_000, self.time / 100 % 100, self.time % 100);
         matches!(self.duplicate, b'0' | b'@') && self.number <= 9999 && hours < 24 && minutes < 60 && seconds < 60
     }
 }
 
 /// The number with leading zeros, over the whole field.
-fn put_number(field: &mut [u8], mut n: u64) {
+pub(super) fn put_number(field: &mut [u8], mut n: u64) {
     for digit in field.iter_mut().rev() {
         *digit = b'0' + (n % 10) as u8;
         n /= 10;

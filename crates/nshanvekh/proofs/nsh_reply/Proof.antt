@@ -13,11 +13,14 @@ given c = lent (c .args .day) (c .args .banks .now) (c .args .known .now)
 returns : tie.Need-returns
 returns c = reply-wrong (c .if1 .taken)
 
+particulars-requires : tie.Need-particulars-requires
+particulars-requires c κs = search needs
+
 write-requires : tie.Need-write-requires
 write-requires c κs = search needs
 
 tell-reply-requires : tie.Need-tell-reply-requires
-tell-reply-requires c κs = c .before .before .before .before .before .if1 .left
+tell-reply-requires c κs = c .before .before .before .before .before .before .if1 .left
 
 same-length : tie.Need-same-length
 same-length c = search needs
@@ -30,10 +33,11 @@ returns-2 c =
     let c1 = c .before .before in
     let c2 = c1 .before .before .before .before in
     let c3 = c2 .before .before in
-    let c4 = c3 .before .before .before .before .before .before in
-    reply-told {l = given c4} (c3 .if1 .left) (c2 .write .ensures) (c1 .tell-reply .ensures)
+    let c4 = c3 .before in
+    let c5 = c4 .before .before .before .before .before .before in
+    reply-told {l = given c5} (c4 .if1 .left) (c3 .particulars .ensures) (c2 .write .ensures) (c1 .tell-reply .ensures)
 
 pub nsh-reply-spec : {M : Type 1} → statement M
 nsh-reply-spec =
     tie.close
-    (tie.spec returns write-requires tell-reply-requires same-length same-length-2 returns-2)
+    (tie.spec returns particulars-requires write-requires tell-reply-requires same-length same-length-2 returns-2)

@@ -1,0 +1,4 @@
+pub mod Form
+pub mod Codes
+pub mod Right
+pub mod Order

@@ -1,0 +1,2 @@
+pub mod Fedjel
+pub mod Answers

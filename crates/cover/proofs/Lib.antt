@@ -1,0 +1,9 @@
+pub mod Dates
+pub mod Sums
+pub mod Parts
+pub mod Totals
+pub mod Good
+pub mod Outcomes
+pub mod Refusals
+pub mod Promise
+pub mod Order

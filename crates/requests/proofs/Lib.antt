@@ -1,0 +1,5 @@
+pub mod Search
+pub mod Twins
+pub mod Found
+pub mod Order
+pub mod Request
