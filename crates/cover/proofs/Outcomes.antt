@@ -6,13 +6,12 @@ use mathlib.Core.List.{List, []}
 use Prim.Native.Nat.{ℕ, _+_, _-_, _*_, _/_, _≤_, _<_}
 use native.Mathlib.Nat.{add-sub-cancel-left}
 use native.Mathlib.Omega.{arith}
-use lib.Dec.{eqb, ltb, lit<, lit≤}
+use lib.Dec.{eqb, ltb, lit≤}
 use lib.ListN.{length, getD, take, drop}
-use lib.Seq.{getD-take, getD-drop}
 use borrow.Author.Tests.{le-leb, lt-leb, lt-ltb, le-ltb}
 use Rattle.base.specs.Bytes.{field}
 use Rattle.base.specs.Groups.{some, place}
-use Rattle.base.proofs.Groups.{length-groups, group-at, some-found}
+use Rattle.base.proofs.Groups.{length-groups, some-found}
 use Rattle.base.proofs.Parts.{within}
 use Rattle.digits.specs.Digits.{numberOf}
 use Rattle.calendar.specs.Calendar.{isDate}
@@ -25,21 +24,12 @@ use Rattle.requests.specs.Requests.{requestsOf, hasId, isRequestList, isAsked, 
 use Rattle.requests.proofs.Found.{asked, lent}
 use Rattle.answers.specs.Fedjel.{itemCount, itemsOf, isFedjel}
 use Rattle.answers.specs.Answers.{answerOf, rightly, tableAfter}
+use Rattle.answers.proofs.Form.{answer-lent}
 use Rattle.cover.specs.Codes.{messageCode}
 use Rattle.cover.specs.Judging.{lentRefused, judged, tableBy, JudgedAs, isAnswered, placeOf, standingOf, stood}
 use Rattle.cover.specs.declared.Answer.the-variants.{Judged, Refused}
 use Rattle.cover.specs.declared.Standing.{Standing}
 use Rattle.cover.specs.declared.Standing.the-variants as standing
-
--- an item's answer, where it stands in the message
-answer-lent : (m : List ℕ) (k : ℕ) → k < itemCount m → getD m (34 + k * 72 + 67) 0 ≡ answerOf (getD (itemsOf m) k [])
-answer-lent m k h =
-    let p : 34 + k * 72 + 67 ≡ 34 + (k * 72 + 67) = omega arith in
-    ap (λ (i : ℕ). getD m i 0) p
-    ∙ sym (getD-drop 34 m (k * 72 + 67) 0)
-    ∙ sym (getD-drop (k * 72) (drop 34 m) 67 0)
-    ∙ sym (getD-take 70 (drop (k * 72) (drop 34 m)) 67 0 (lit< tt))
-    ∙ ap answerOf (sym (group-at 72 70 (itemCount m) (drop 34 m) k h))
 
 -- a request's sum, as code lends it
 sum-lent : (l : List ℕ) (j : ℕ)

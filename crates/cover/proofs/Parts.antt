@@ -19,7 +19,7 @@ use Rattle.text.specs.Text.{isPlain}
 use Rattle.digits.specs.Digits.{isDigits}
 use Rattle.answers.specs.Fedjel.{itemCount, headOf, itemsOf, footOf, isFedjel}
 use Rattle.cover.specs.Head.{headRows}
-use Rattle.cover.specs.Codes.{isPlainMessage, isTyped, itemRows, itemsRows, lastRows, messageRows, codeWith}
+use Rattle.cover.specs.Codes.{isPlainMessage, isTyped, wholeRows, wholeRowsOfAll, lastRows, messageRows, codeWith}
 
 -- what passes as a FEDJEL is long enough for its head, its items and its foot
 pub record Long (m : List ℕ) : Type 0 where
@@ -41,41 +41,41 @@ module _ (b : List ℕ) (n : ℕ) where
   its = groups 72 70 n b
 
   pub record Faultless (k : ℕ) : Type 0 where
-    pub left : firstGiven (itemsRows (drop k its)) ≡ firstGiven (itemsRows its)
+    pub left : firstGiven (wholeRowsOfAll (drop k its)) ≡ firstGiven (wholeRowsOfAll its)
 
   pub faultless : Faultless 0
   faultless = record { left = refl }
 
-  numbered-item : (it : List ℕ) → numbered (itemRows it) ≡ true
-  unfolding itemRows
+  numbered-item : (it : List ℕ) → numbered (wholeRows it) ≡ true
+  unfolding wholeRows
   numbered-item it = refl
 
   module _ {k : ℕ} (w : Faultless k) where
-    pub no-fault : n ≤ k → 0 ≡ firstGiven (itemsRows its)
-    unfolding itemsRows
+    pub no-fault : n ≤ k → 0 ≡ firstGiven (wholeRowsOfAll its)
+    unfolding wholeRowsOfAll
     no-fault h =
         let g : length its ≤ k = omega (arith, h, length-groups 72 70 n b) in
-        ap (λ (x : List (List ℕ)). firstGiven (itemsRows x)) (sym (drop-of-length-le its g)) ∙ w .left
+        ap (λ (x : List (List ℕ)). firstGiven (wholeRowsOfAll x)) (sym (drop-of-length-le its g)) ∙ w .left
 
-    module _ (h : k < n) {c : ℕ} (e : c ≡ firstGiven (itemRows (take (k * 72 + 70 - k * 72) (drop (k * 72) b)))) where
-      turn : cond (eqb c 0) (firstGiven (itemsRows (drop (k + 1) its))) c ≡ firstGiven (itemsRows its)
-      unfolding itemsRows
+    module _ (h : k < n) {c : ℕ} (e : c ≡ firstGiven (wholeRows (take (k * 72 + 70 - k * 72) (drop (k * 72) b)))) where
+      turn : cond (eqb c 0) (firstGiven (wholeRowsOfAll (drop (k + 1) its))) c ≡ firstGiven (wholeRowsOfAll its)
+      unfolding wholeRowsOfAll
       turn =
           let it = take (k * 72 + 70 - k * 72) (drop (k * 72) b) in
-          let rest = itemsRows (drop (k + 1) its) in
+          let rest = wholeRowsOfAll (drop (k + 1) its) in
           ap (λ (x : ℕ). cond (eqb x 0) (firstGiven rest) x) e
-          ∙ sym (rows-then (itemRows it) rest (numbered-item it))
-          ∙ ap (λ (x : List (List ℕ)). firstGiven (itemsRows x)) (sym (group-next 72 70 n b k h))
+          ∙ sym (rows-then (wholeRows it) rest (numbered-item it))
+          ∙ ap (λ (x : List (List ℕ)). firstGiven (wholeRowsOfAll x)) (sym (group-next 72 70 n b k h))
           ∙ w .left
 
-      pub a-fault : (c ≡ 0 → ⊥) → c ≡ firstGiven (itemsRows its)
+      pub a-fault : (c ≡ 0 → ⊥) → c ≡ firstGiven (wholeRowsOfAll its)
       a-fault f = simp (ne-eqb c 0 f) at turn
 
       pub faultless-on : c ≡ 0 → Faultless (k + 1)
       faultless-on f = record { left = simp (eq-eqb c 0 f) at turn }
 
-numbered-items : (its : List (List ℕ)) → numbered (itemsRows its) ≡ true
-unfolding itemsRows itemRows
+numbered-items : (its : List (List ℕ)) → numbered (wholeRowsOfAll its) ≡ true
+unfolding wholeRowsOfAll wholeRows
 numbered-items [] = refl
 numbered-items (it ∷ its) = numbered-items its
 
@@ -84,8 +84,8 @@ unfolding headRows
 numbered-head e rs h = refl
 
 -- items without an Ü fault are each of type 02 or 03
-pub typed : (its : List (List ℕ)) → firstGiven (itemsRows its) ≡ 0 → all isTyped its ≡ true
-unfolding itemsRows itemRows
+pub typed : (its : List (List ℕ)) → firstGiven (wholeRowsOfAll its) ≡ 0 → all isTyped its ≡ true
+unfolding wholeRowsOfAll wholeRows
 typed [] e = refl
 typed (it ∷ its) e =
     let one = no-row (isTyped it) 46 _ refl e in
@@ -98,19 +98,19 @@ module _ (faulty : Bool) (e : ℕ) (rs : List (List ℕ)) (m : List ℕ) where
   head = firstGiven (headRows e rs (headOf m))
 
   abbrev pub items : ℕ
-  items = firstGiven (itemsRows (itemsOf m))
+  items = firstGiven (wholeRowsOfAll (itemsOf m))
 
   pub not-plain : isPlainMessage m ≡ false → 36 ≡ codeWith faulty e rs m
   unfolding codeWith messageRows
   not-plain f = simp f
 
   module _ (p : isPlainMessage m ≡ true) where
-    by-head : codeWith faulty e rs m ≡ cond (eqb head 0) (firstGiven (itemsRows (itemsOf m) ++ lastRows faulty m)) head
+    by-head : codeWith faulty e rs m ≡ cond (eqb head 0) (firstGiven (wholeRowsOfAll (itemsOf m) ++ lastRows faulty m)) head
     unfolding codeWith messageRows
-    by-head = simp p (rows-then (headRows e rs (headOf m)) (itemsRows (itemsOf m) ++ lastRows faulty m) (numbered-head e rs (headOf m)))
+    by-head = simp p (rows-then (headRows e rs (headOf m)) (wholeRowsOfAll (itemsOf m) ++ lastRows faulty m) (numbered-head e rs (headOf m)))
 
-    by-items : firstGiven (itemsRows (itemsOf m) ++ lastRows faulty m) ≡ cond (eqb items 0) (firstGiven (lastRows faulty m)) items
-    by-items = rows-then (itemsRows (itemsOf m)) (lastRows faulty m) (numbered-items (itemsOf m))
+    by-items : firstGiven (wholeRowsOfAll (itemsOf m) ++ lastRows faulty m) ≡ cond (eqb items 0) (firstGiven (lastRows faulty m)) items
+    by-items = rows-then (wholeRowsOfAll (itemsOf m)) (lastRows faulty m) (numbered-items (itemsOf m))
 
     pub by-parts : codeWith faulty e rs m ≡ cond (eqb head 0) (cond (eqb items 0) (firstGiven (lastRows faulty m)) items) head
     by-parts = by-head ∙ ap (λ (x : ℕ). cond (eqb head 0) x head) by-items
@@ -122,7 +122,7 @@ module _ (faulty : Bool) (e : ℕ) (rs : List (List ℕ)) (m : List ℕ) where
       pub head-first : (h ≡ 0 → ⊥) → h ≡ codeWith faulty e rs m
       head-first g = sym (simp (ne-eqb h 0 g) at by-h)
 
-      module _ (g : h ≡ 0) {i : ℕ} (k : i ≡ firstGiven (itemsRows (itemsOf m))) where
+      module _ (g : h ≡ 0) {i : ℕ} (k : i ≡ firstGiven (wholeRowsOfAll (itemsOf m))) where
         by-i : codeWith faulty e rs m ≡ cond (eqb i 0) (firstGiven (lastRows faulty m)) i
         by-i = (simp (eq-eqb h 0 g) at by-h) ∙ ap (λ (x : ℕ). cond (eqb x 0) (firstGiven (lastRows faulty m)) x) (sym k)
 

@@ -44,7 +44,7 @@ pub record Shared (its : List (List ℕ)) : Type 0 where
   pub sums : sumOf 0x32 its + sumOf 0x33 its ≡ total amountOf its
 
 pub shared : (its : List (List ℕ)) → all isTyped its ≡ true → Shared its
-unfolding isTyped isType
+unfolding isTyped
 shared [] e = record { counts = refl; sums = refl }
 shared (it ∷ its) e =
     let h = both (isTyped it) (all isTyped its) e in

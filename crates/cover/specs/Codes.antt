@@ -3,7 +3,7 @@
 use Prim.Native.Nat.{ℕ}
 use mathlib.Core.Bool.{Bool, not, _&&_, _||_}
 use mathlib.Core.List.{List, [], _∷_, _++_}
-use Rattle.base.specs.Bytes.{ascii, field, same}
+use Rattle.base.specs.Bytes.{field}
 use Rattle.base.specs.Groups.{all}
 use Rattle.base.specs.Tables.{Row, firstGiven}
 use Rattle.text.specs.Text.{isPlain}
@@ -11,7 +11,7 @@ use Rattle.digits.specs.Digits.{isDigits}
 use Rattle.answers.specs.Fedjel.{headOf, itemsOf, footOf}
 use Rattle.answers.specs.Answers.{isFaulty}
 use Rattle.cover.specs.Head.{headRows}
-use Rattle.cover.specs.Foot.{totalsOf, totalsOfAll, footRows}
+use Rattle.cover.specs.Foot.{isType, totalsOf, totalsOfAll, footRows}
 
 -- each byte of each record is 20h to 7Eh; the endings don't count (002 12, the last note before 12.1)
 unfoldable pub isPlainMessage : List ℕ → Bool
@@ -19,16 +19,16 @@ isPlainMessage m = isPlain (headOf m) && (all isPlain (itemsOf m) && isPlain (fo
 
 -- an item's type is 02 or 03
 unfoldable pub isTyped : List ℕ → Bool
-isTyped it = same (field 1 2 it) (ascii "02") || same (field 1 2 it) (ascii "03")
+isTyped it = isType 0x32 it || isType 0x33 it
 
--- an item's Ü faults: type, sum
-unfoldable pub itemRows : List ℕ → List Row
-itemRows it = (46, not (isTyped it)) ∷ (34, not (isDigits (field 52 67 it))) ∷ []
+-- an item's Ü faults, which refuse the whole message: type, sum
+unfoldable pub wholeRows : List ℕ → List Row
+wholeRows it = (46, not (isTyped it)) ∷ (34, not (isDigits (field 52 67 it))) ∷ []
 
 -- those of each item, in order
-unfoldable pub itemsRows : List (List ℕ) → List Row
-itemsRows [] = []
-itemsRows (it ∷ its) = itemRows it ++ itemsRows its
+unfoldable pub wholeRowsOfAll : List (List ℕ) → List Row
+wholeRowsOfAll [] = []
+wholeRowsOfAll (it ∷ its) = wholeRows it ++ wholeRowsOfAll its
 
 -- the foot's, by the items
 unfoldable pub lastRows : Bool → List ℕ → List Row
@@ -39,7 +39,7 @@ unfoldable pub messageRows : Bool → ℕ → List (List ℕ) → List ℕ → L
 messageRows faulty e rs m =
     (36, not (isPlainMessage m))
     ∷ headRows e rs (headOf m)
-    ++ (itemsRows (itemsOf m)
+    ++ (wholeRowsOfAll (itemsOf m)
     ++ lastRows faulty m)
 
 -- the first of them, told whether some item is faulty

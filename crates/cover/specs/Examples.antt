@@ -15,7 +15,7 @@ use Rattle.answers.specs.Fedjel.{isFedjel}
 use Rattle.answers.specs.Answers.{together, rightly, itemCode, codesTo}
 use Rattle.cover.specs.Head.{isNumber, daysBack, workdayBefore, sentOn, headRows}
 use Rattle.cover.specs.Foot.{isType, amountOf, areTogether, typedRows, jointRows, footRows}
-use Rattle.cover.specs.Codes.{isPlainMessage, isTyped, itemRows, itemsRows, lastRows, messageRows, codeWith}
+use Rattle.cover.specs.Codes.{isPlainMessage, isTyped, wholeRows, wholeRowsOfAll, lastRows, messageRows, codeWith}
 use Rattle.cover.specs.Judging.{lentRefused, judged, tableBy, isAnswered, standingOf}
 use Rattle.cover.specs.declared.Answer.the-variants.{Judged}
 use Rattle.cover.specs.declared.Standing.the-variants as standing
@@ -42,14 +42,14 @@ refused = message (ascii "03") (ascii "0") (ascii "00000000000000000000") (ascii
 -- code 00, one item with code 0, which stands
 pub example-fedjel : (judged 20200310 request covered (9 ∷ 9 ∷ []) ≡ Judged 0 1) × (tableBy 20200310 request covered (9 ∷ 9 ∷ []) ≡ 0 ∷ 9 ∷ [])
 unfolding over judged tableBy lentRefused isRequestList areRequests isFedjel ended codeWith messageRows isPlainMessage headRows sentOn dateField
-    isNumber numberOf keeps itemsRows itemRows isTyped lastRows footRows typedRows jointRows areTogether isType amountOf itemCode codesTo hasId
+    isNumber numberOf keeps wholeRowsOfAll wholeRows isTyped lastRows footRows typedRows jointRows areTogether isType amountOf itemCode codesTo hasId
     requestOf rightly together daysBack workdayBefore leap isDate daysOfYears daysOfMonths daysTo dayNumber
 example-fedjel = (refl, refl)
 
 pub example-standing :
     (standingOf 20200310 request covered id ≡ standing.Item 0 0x31 12345) × (standingOf 20200310 request refused id ≡ standing.Item 0 0x30 12345)
 unfolding standingOf isAnswered lentRefused isRequestList areRequests isFedjel ended codeWith messageRows isPlainMessage headRows sentOn dateField isNumber
-    numberOf keeps itemsRows itemRows isTyped lastRows footRows typedRows jointRows areTogether isType amountOf itemCode codesTo hasId requestOf rightly
+    numberOf keeps wholeRowsOfAll wholeRows isTyped lastRows footRows typedRows jointRows areTogether isType amountOf itemCode codesTo hasId requestOf rightly
     together daysBack workdayBefore leap isDate daysOfYears daysOfMonths daysTo dayNumber
 example-standing = (refl, refl)
 

@@ -9,7 +9,7 @@ ghost use Rattle.base.specs.Tables.{firstGiven};
 ghost use Rattle.text.specs.Text.{isPlain};
 ghost use Rattle.requests.specs.Requests.{requestsOf};
 ghost use Rattle.answers.specs.Fedjel.{isFedjel, itemsOf};
-ghost use Rattle.cover.specs.Codes.{isPlainMessage, isTyped, itemRows, itemsRows, lastRows, codeWith, messageCode};
+ghost use Rattle.cover.specs.Codes.{isPlainMessage, isTyped, wholeRows, wholeRowsOfAll, lastRows, codeWith, messageCode};
 use crate::foot::foot_code;
 use crate::foot::totals;
 use crate::head::head_code;
@@ -54,7 +54,7 @@ fn is_plain(message: &[u8]) -> bool
 // The code of an item's first Ü fault, 0 if it has none: its type, its sum (002 12.4.1).
 fn item_code(item: &[u8]) -> u8
     requires { ⌜ length (now item) ≡ 70 ⌝ }
-    ensures { λ r. ⌜ r ≡ firstGiven (itemRows (now (item .entry))) ⌝ }
+    ensures { λ r. ⌜ r ≡ firstGiven (wholeRows (now (item .entry))) ⌝ }
 {
     let t = &item[0..2];
     let c = unless(digits::is_digits(&item[51..67]), 34, 0);
@@ -64,7 +64,7 @@ fn item_code(item: &[u8]) -> u8
 // The code of the first of n items that has an Ü fault, 0 if none has.
 fn items_code(body: &[u8], n: usize) -> u8
     requires { ⌜ n * 72 ≤ length (now body) ⌝ }
-    ensures { λ r. ⌜ r ≡ firstGiven (itemsRows (groups 72 70 n (now (body .entry)))) ⌝ }
+    ensures { λ r. ⌜ r ≡ firstGiven (wholeRowsOfAll (groups 72 70 n (now (body .entry)))) ⌝ }
 {
     let mut k = 0;
     while k < n {

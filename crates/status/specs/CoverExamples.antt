@@ -13,7 +13,7 @@ use Rattle.answers.specs.Fedjel.{isFedjel}
 use Rattle.answers.specs.Answers.{together, rightly, itemCode, codesTo}
 use Rattle.cover.specs.Head.{isNumber, daysBack, workdayBefore, sentOn, headRows}
 use Rattle.cover.specs.Foot.{isType, amountOf, areTogether, typedRows, jointRows, footRows}
-use Rattle.cover.specs.Codes.{isPlainMessage, isTyped, itemRows, itemsRows, lastRows, messageRows, codeWith}
+use Rattle.cover.specs.Codes.{isPlainMessage, isTyped, wholeRows, wholeRowsOfAll, lastRows, messageRows, codeWith}
 use Rattle.cover.specs.Judging.{lentRefused, isAnswered, standingOf}
 use Rattle.cover.specs.Examples.{request, id, covered, refused}
 use Rattle.status.specs.declared.reply.Particulars.{Particulars}
@@ -32,6 +32,6 @@ pub example-fedsta :
     ≡ ascii "01FEDSTA0A12345676T00120200301000120200310000708300098" ++ ending
     ++ (ascii "0300000000000000000000000000030000000000012345" ++ ending))
 unfolding fedsta fedstaBytes headRecord footRecord figures coverSaid stateOf onlyIf standingOf isAnswered lentRefused isRequestList areRequests isFedjel ended
-    codeWith messageRows isPlainMessage headRows sentOn dateField isNumber numberOf keeps itemsRows itemRows isTyped lastRows footRows typedRows jointRows
+    codeWith messageRows isPlainMessage headRows sentOn dateField isNumber numberOf keeps wholeRowsOfAll wholeRows isTyped lastRows footRows typedRows jointRows
     areTogether isType amountOf itemCode codesTo hasId requestOf rightly together daysBack workdayBefore leap isDate daysOfYears daysOfMonths daysTo dayNumber
 example-fedsta = (refl, refl)

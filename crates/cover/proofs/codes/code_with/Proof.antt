@@ -7,7 +7,7 @@ use Rattle.base.specs.Tables.{firstGiven}
 use Rattle.requests.specs.Requests.{requestsOf}
 use Rattle.answers.specs.Fedjel.{itemsOf}
 use Rattle.answers.proofs.Form.{items}
-use Rattle.cover.specs.Codes.{itemsRows}
+use Rattle.cover.specs.Codes.{wholeRowsOfAll}
 use Rattle.cover.proofs.Parts.{long, typed, not-plain, head-first, items-first, foot-last}
 use borrow.Author.Needs.{needs}
 use Rattle.cover.proofs.codes.code_with.Statement.{statement}
@@ -62,14 +62,14 @@ returns-3 c =
     let a = c .before .before .before .before .before .before .before .before .before .before .before .args in
     let m = a .message .now in
     let p = sym (one .before .is-plain .ensures) ∙ not-false _ (one .if1 .left) in
-    let i = c .before .items-code .ensures ∙ ap (λ x. firstGiven (itemsRows x)) (items m (c .before .before .count .ensures)) in
+    let i = c .before .items-code .ensures ∙ ap (λ x. firstGiven (wholeRowsOfAll x)) (items m (c .before .before .count .ensures)) in
     items-first (a .faulty) (a .day) (requestsOf (a .list .now)) m p (two .before .head-code .ensures) (two .if2 .left) i (c .if3 .taken)
 
 last-code-requires : tie.Need-last-code-requires
 last-code-requires c κs =
     let s = c .before .before .before .before .before .before .before .before .before .before .before in
     let m = s .args .message .now in
-    let i = c .before .items-code .ensures ∙ ap (λ x. firstGiven (itemsRows x)) (items m (c .before .before .count .ensures)) in
+    let i = c .before .items-code .ensures ∙ ap (λ x. firstGiven (wholeRowsOfAll x)) (items m (c .before .before .count .ensures)) in
     (s .pre, typed (itemsOf m) (sym i ∙ c .if3 .left))
 
 returns-4 : tie.Need-returns-4
@@ -80,7 +80,7 @@ returns-4 c =
     let a = c .before .before .before .before .before .before .before .before .before .before .before .before .args in
     let m = a .message .now in
     let p = sym (one .before .is-plain .ensures) ∙ not-false _ (one .if1 .left) in
-    let i = three .before .items-code .ensures ∙ ap (λ x. firstGiven (itemsRows x)) (items m (three .before .before .count .ensures)) in
+    let i = three .before .items-code .ensures ∙ ap (λ x. firstGiven (wholeRowsOfAll x)) (items m (three .before .before .count .ensures)) in
     foot-last (a .faulty) (a .day) (requestsOf (a .list .now)) m p (two .before .head-code .ensures) (two .if2 .left) i (three .if3 .left)
     (c .last-code .ensures)
 

@@ -3,7 +3,8 @@
 use mathlib.Core.Path.{_≡_, refl, ap, _∙_}
 use mathlib.Core.Bool.{Bool, _||_}
 use Rattle.base.proofs.Tables.{row}
-use Rattle.cover.specs.Codes.{isTyped, itemRows}
+use Rattle.cover.specs.Foot.{isType}
+use Rattle.cover.specs.Codes.{isTyped, wholeRows}
 use borrow.Author.Needs.{needs}
 use Rattle.cover.proofs.codes.item_code.Statement.{statement}
 use Rattle.cover.proofs.codes.item_code.Tie as tie
@@ -51,7 +52,7 @@ unless-requires-2 : tie.Need-unless-requires-2
 unless-requires-2 c κs = search needs
 
 returns : tie.Need-returns
-unfolding isTyped itemRows
+unfolding isType isTyped wholeRows
 returns c =
     let c3 = c .before .before .before in
     let c5 = c3 .before .before in

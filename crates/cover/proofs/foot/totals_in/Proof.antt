@@ -1,29 +1,27 @@
 -- `cover::foot::totals_in` meets its contract: by the two bytes of the type.
 -- Assumes nothing.
-use mathlib.Core.Path.{_≡_, refl, sym, ap, _∙_}
+use mathlib.Core.Path.{_≡_, sym, ap, _∙_}
 use mathlib.Core.Bool.{Bool, true, false, cond, _&&_, and-true}
 use mathlib.Core.List.{List, [], _∷_}
 use Prim.Native.Nat.{ℕ}
 use native.Mathlib.Omega.{arith}
 use lib.Dec.{eqb}
-use lib.ListN.{length, getD, take}
+use lib.ListN.{length, getD}
 use Rattle.base.specs.Bytes.{field, same}
 use Rattle.digits.specs.Digits.{numberOf}
+use Rattle.answers.proofs.Form.{type-bytes}
 use Rattle.cover.specs.Foot.{isType, amountOf}
 use Rattle.cover.specs.Sums.{totalsIn}
 use borrow.Author.Needs.{needs}
 use Rattle.cover.proofs.foot.totals_in.Statement.{statement}
 use Rattle.cover.proofs.foot.totals_in.Tie as tie
 
-two : (it : List ℕ) → length it ≡ 70 → take 2 it ≡ getD it 0 0 ∷ getD it 1 0 ∷ []
-two [] h = absurd (omega arith)
-two (x ∷ []) h = absurd (omega arith)
-two (x ∷ y ∷ its) h = refl
-
 module _ (t : ℕ) (it : List ℕ) (h : length it ≡ 70) where
   typed : isType t it ≡ eqb (getD it 0 0) 48 && eqb (getD it 1 0) t
   unfolding isType
-  typed = ap (λ (x : List ℕ). same x (48 ∷ t ∷ [])) (two it h) ∙ ap (λ (b : Bool). eqb (getD it 0 0) 48 && b) (and-true (eqb (getD it 1 0) t))
+  typed =
+      ap (λ (x : List ℕ). same x (48 ∷ t ∷ [])) (type-bytes it (omega (arith, h)))
+      ∙ ap (λ (b : Bool). eqb (getD it 0 0) 48 && b) (and-true (eqb (getD it 1 0) t))
 
   own : eqb (getD it 0 0) 48 && eqb (getD it 1 0) t ≡ true → {v : ℕ} → v ≡ numberOf (field 52 67 it)
       → record { count = 1; sum = v } ≡ totalsIn t it
