@@ -1,108 +1,96 @@
 -- In a list that ascends, the search by halves finds exactly the elements.
 -- Assumes nothing.
 use mathlib.Core.Path.{_≡_, refl, sym, ap, _∙_}
-use mathlib.Core.Bool.{Bool, true, false, cond, _||_, or-assoc, or-false, or-true}
+use mathlib.Core.Bool.{Bool, true, false, cond, _||_, or-assoc, or-false}
 use mathlib.Core.List.{List, [], _∷_, _++_}
-use mathlib.Core.Logic.{_⊎_, inl, inr, ⊎-elim}
-use Prim.Native.Nat.{ℕ, zero, suc, _+_, _/_, _≤_, _<_}
-use native.Mathlib.Nat.{eq-or-lt-of-le, le-refl}
-use native.Mathlib.Numerals.{add-one}
+use Prim.Native.Nat.{ℕ, zero, suc, _-_, _/_, _≤_, _<_}
+use native.Mathlib.Nat.{le-refl}
 use native.Mathlib.Omega.{arith}
-use lib.Dec.{eqb, ltb}
-use lib.ListN.{length, getD, take, drop, length-drop}
-use lib.Seq.{length-take-le, split-at}
-use borrow.Author.Tests.{ltb-true, ltb-false, eq-eqb, ne-eqb, lt-ltb, le-ltb}
-use Rattle.lists.specs.Banks.{member, above, ascends, foundIn}
+use lib.Dec.{leb}
+use lib.ListN.{length, getD, take, drop, take-append-drop}
+use borrow.Author.Tests.{ne-eqb}
+use Rattle.lists.specs.Banks.{member, above, ascends, half, halved, foundIn}
 use Rattle.lists.proofs.Ascent.{parts, made, weak}
-use Rattle.lists.proofs.Halves.{turn}
+use Rattle.lists.proofs.Halves.{either}
 
--- an element of two lists in a row is one of either
-member-append : (x : ℕ) (a b : List ℕ) → member x (a ++ b) ≡ member x a || member x b
-member-append x [] b = refl
-member-append x (y ∷ ys) b = simp (member-append x ys b, or-assoc)
+-- the first k elements of a list that ascends ascend
+front : (p k : ℕ) (l : List ℕ) → above p l ≡ true → above p (take k l) ≡ true
+front p zero l e = refl
+front p (suc k) [] e = refl
+front p (suc k) (y ∷ ys) e = let h = parts p y ys e in made p y (take k ys) (h .0) (front y k ys (h .1))
 
-module _ (c : ℕ) (b : List ℕ) where
-  -- what stands before c ascends, and so does c with what stands after it
-  front : (p : ℕ) (a : List ℕ) → above p (a ++ c ∷ b) ≡ true → above p a ≡ true
-  front p [] e = refl
-  front p (y ∷ ys) e = let h = parts p y (ys ++ c ∷ b) e in made p y ys (h .0) (front y ys (h .1))
+low : (k : ℕ) (l : List ℕ) → ascends l ≡ true → ascends (take k l) ≡ true
+low zero l e = refl
+low (suc k) [] e = refl
+low (suc k) (y ∷ ys) e = front y k ys e
 
-  back : (p : ℕ) (a : List ℕ) → above p (a ++ c ∷ b) ≡ true → (p < c) × (above c b ≡ true)
-  back p [] e = parts p c b e
-  back p (y ∷ ys) e =
-      let h = parts p y (ys ++ c ∷ b) e in
-      let k = back y ys (h .1) in
-      (omega arith, k .1)
+-- and so do those from the k-th on
+high : (k : ℕ) (l : List ℕ) → ascends l ≡ true → ascends (drop k l) ≡ true
+high zero l e = e
+high (suc k) [] e = refl
+high (suc k) (y ∷ ys) e = high k ys (weak y ys e)
 
-  -- what stands before c is below it
-  early : (x p : ℕ) (a : List ℕ) → above p (a ++ c ∷ b) ≡ true → c ≤ x → member x a ≡ false
-  early x p [] e l = refl
-  early x p (y ∷ ys) e l =
-      let h = parts p y (ys ++ c ∷ b) e in
-      let k = back y ys (h .1) in
-      simp (ne-eqb y x (λ q. omega arith)) (early x y ys (h .1) l)
+-- an element of a list that is above p is above p
+over : (p k : ℕ) (l : List ℕ) → above p l ≡ true → k < length l → p < getD l k 0
+over p k [] e h = absurd (omega arith)
+over p zero (y ∷ ys) e h = parts p y ys e .0
+over p (suc k) (y ∷ ys) e h =
+    let i = parts p y ys e in
+    let j = over y k ys (i .1) (omega arith) in
+    omega (arith, i .0)
 
--- what stands after p is above it
-late : (x p : ℕ) (l : List ℕ) → above p l ≡ true → x ≤ p → member x l ≡ false
-late x p [] e k = refl
-late x p (y ∷ ys) e k =
-    let h = parts p y ys e in
-    simp (ne-eqb y x (λ q. omega arith)) (late x y ys (h .1) (omega arith))
+-- of two equal arms either is taken
+arms : (t : Bool) {a b : Bool} → b ≡ a → cond t a b ≡ a
+arms true e = refl
+arms false e = e
 
--- a list that ascends, split at c
-record Split (x : ℕ) (a : List ℕ) (c : ℕ) (b : List ℕ) : Type 0 where
-  low : ascends a ≡ true
-  high : ascends b ≡ true
-  before : c ≤ x → member x a ≡ false
-  after : x ≤ c → member x b ≡ false
+module _ (x : ℕ) where
+  -- an element of two lists in a row is one of either
+  member-append : (a b : List ℕ) → member x (a ++ b) ≡ member x a || member x b
+  member-append [] b = refl
+  member-append (y ∷ ys) b = simp (member-append ys b, or-assoc)
 
-split : (x : ℕ) (a : List ℕ) (c : ℕ) (b : List ℕ) → ascends (a ++ c ∷ b) ≡ true → Split x a c b
-split x [] c b e = record { low = refl; high = weak c b e; before = λ h. refl; after = late x c b e }
-split x (y ∷ ys) c b e =
-    let k = back c b y ys e in
-    record {
-      low = front c b y ys e;
-      high = weak c b (k .1);
-      before = λ h. simp (ne-eqb y x (λ q. omega arith)) (early c b x y ys e h);
-      after = late x c b (k .1);
-    }
+  parted : (k : ℕ) (l : List ℕ) → member x l ≡ member x (take k l) || member x (drop k l)
+  parted k l = sym (ap (member x) (take-append-drop k l)) ∙ member-append (take k l) (drop k l)
 
--- equal, below or above
-three : (c x : ℕ) → (c ≡ x) ⊎ ((c < x) ⊎ (x < c))
-three c x = go (ltb c x) refl
-  where
-    go : (t : Bool) → ltb c x ≡ t → (c ≡ x) ⊎ ((c < x) ⊎ (x < c))
-    go true e = inr (inl (ltb-true c x e))
-    go false e = ⊎-elim (λ q. inl (sym q)) (λ q. inr (inr q)) (eq-or-lt-of-le (ltb-false c x e))
+  -- x isn't before an element that is at most x
+  before : (k : ℕ) (l : List ℕ) → ascends l ≡ true → k ≤ length l - 1 → getD l k 0 ≤ x → member x (take k l) ≡ false
+  before zero l e h i = refl
+  before (suc k) [] e h i = refl
+  before (suc k) (y ∷ ys) e h i =
+      let j = over y k ys e (omega arith) in
+      simp (ne-eqb y x (λ q. omega arith)) (before k ys (weak y ys e) (omega arith) i)
 
--- one turn of the search, where the halves are searched right
-cases : (x : ℕ) (a : List ℕ) (c : ℕ) (b : List ℕ) → Split x a c b → foundIn a x ≡ member x a → foundIn b x ≡ member x b
-    → cond (eqb c x) true (cond (ltb c x) (foundIn b x) (foundIn a x)) ≡ member x a || (eqb c x || member x b)
-cases x a c b p low high =
-    ⊎-elim
-    (λ e. simp (eq-eqb c x e, or-true))
-    (⊎-elim
-    (λ l. simp (ne-eqb c x (λ q. omega arith), lt-ltb c x l, p .before (omega arith)) high)
-    (λ l. simp (ne-eqb c x (λ q. omega arith), le-ltb c x (omega arith), p .after (omega arith), or-false) low))
-    (three c x)
+  -- x isn't in a list that is above it, whatever is dropped
+  absent : (p k : ℕ) (l : List ℕ) → above p l ≡ true → x ≤ p → member x (drop k l) ≡ false
+  absent p zero [] e h = refl
+  absent p (suc k) [] e h = refl
+  absent p zero (y ∷ ys) e h =
+      let i = parts p y ys e in
+      simp (ne-eqb y x (λ q. omega arith)) (absent y zero ys (i .1) (omega arith))
+  absent p (suc k) (y ∷ ys) e h = let i = parts p y ys e in absent y k ys (i .1) (omega arith)
 
--- by the length, which is at most n
-exact-by : (n x : ℕ) (l : List ℕ) → length l ≤ n → ascends l ≡ true → foundIn l x ≡ member x l
-exact-by zero x [] h e = refl
-exact-by zero x (y ∷ ys) h e = absurd (omega arith)
-exact-by (suc n) x [] h e = refl
-exact-by (suc n) x (y ∷ ys) h e =
-    let l : List ℕ = y ∷ ys in
-    let m = length l / 2 in
-    let a = take m l in
-    let c = getD l m 0 in
-    let b = drop (m + 1) l in
-    let s : l ≡ a ++ c ∷ b = rw add-one (split-at l m 0 (omega arith)) in
-    let p : Split x a c b = split x a c b (sym (ap ascends s) ∙ e) in
-    let low : foundIn a x ≡ member x a = exact-by n x a (omega (arith, length-take-le m l (omega arith))) (p .low) in
-    let high : foundIn b x ≡ member x b = exact-by n x b (omega (arith, length-drop (m + 1) l)) (p .high) in
-    turn x l (λ q. omega arith) ∙ cases x a c b p low high ∙ sym (ap (member x) s ∙ member-append x a (c ∷ b))
+  -- x isn't after an element that is above x
+  after : (m k : ℕ) (l : List ℕ) → ascends l ≡ true → m ≤ k → x < getD l m 0 → member x (drop k l) ≡ false
+  after m k [] e h i = absurd (omega arith)
+  after zero k (y ∷ ys) e h i = absent x k (y ∷ ys) (made x y ys i e) (le-refl x)
+  after (suc m) zero (y ∷ ys) e h i = absurd (omega arith)
+  after (suc m) (suc k) (y ∷ ys) e h i = after m k ys (weak y ys e) (omega arith) i
+
+  -- the half ascends, and holds x exactly if the list does
+  kept : (l : List ℕ) → ascends l ≡ true → (ascends (half x l) ≡ true) × (member x (half x l) ≡ member x l)
+  kept l e =
+      let m = length l / 2 in
+      let k = length l - m in
+      either x l (λ s. (ascends s ≡ true) × (member x s ≡ member x l))
+      (λ h. (low k l e, sym (parted k l ∙ simp (after m k l e (omega arith) h, or-false))))
+      (λ h. (high m l e, sym (parted m l ∙ simp (before m l e (omega arith) h))))
+
+  -- so does what any number of turns leaves
+  left : (n : ℕ) (l : List ℕ) → ascends l ≡ true → halved n x l ≡ member x l
+  left zero l e = refl
+  left (suc n) l e = let h = kept l e in arms (leb (length l) 8) (left n (half x l) (h .0) ∙ h .1)
 
 -- in a list that ascends, what is found is what is an element
 pub exact : (l : List ℕ) (x : ℕ) → ascends l ≡ true → foundIn l x ≡ member x l
-exact l x e = exact-by (length l) x l (le-refl (length l)) e
+exact l x e = left x (length l) l e

@@ -1,6 +1,6 @@
 -- The bank list: numbers of at most eight digits in strictly ascending order (01, The job), and the search by halves.
 -- Assumes nothing.
-use Prim.Native.Nat.{ℕ, zero, suc, _+_, _/_}
+use Prim.Native.Nat.{ℕ, zero, suc, _-_, _/_}
 use mathlib.Core.Bool.{Bool, true, false, cond, _&&_, _||_}
 use mathlib.Core.List.{List, [], _∷_}
 use lib.ListN.{length, getD, take, drop}
@@ -30,17 +30,17 @@ ascendsTo top l = ascends l && every (λ x. leb x top) l
 abbrev pub isBankList : List ℕ → Bool
 isBankList = ascendsTo 99999999
 
--- the search by halves, for at most n turns
-abbrev pub halved : ℕ → ℕ → List ℕ → Bool
-halved zero x l = false
-halved (suc n) x [] = false
-halved (suc n) x (y ∷ ys) =
-    let l = y ∷ ys in
+-- the half that can hold x: the first elements if the one in the middle is above x, else those from it on; one element is both halves
+abbrev pub half : ℕ → List ℕ → List ℕ
+half x l =
     let m = length l / 2 in
-    let high = halved n x (drop (m + 1) l) in
-    let low = halved n x (take m l) in
-    cond (eqb (getD l m 0) x) true (cond (ltb (getD l m 0) x) high low)
+    cond (ltb x (getD l m 0)) (take (length l - m) l) (drop m l)
 
--- what halving finds in any list; in a list that ascends it is membership
+-- the search by halves: of up to eight numbers whether x is one of them; of more, the same in the half that can hold x
+abbrev pub halved : ℕ → ℕ → List ℕ → Bool
+halved zero x l = member x l
+halved (suc n) x l = cond (leb (length l) 8) (member x l) (halved n x (half x l))
+
+-- what halving finds in any list: so many turns leave eight elements at most; in a list that ascends it is membership
 abbrev pub foundIn : List ℕ → ℕ → Bool
 foundIn l x = halved (length l) x l

@@ -1,6 +1,8 @@
 // The lists that the judge is lent: the bank list and the known list.
 ghost use mathlib.Core.Path.{_≡_};
 ghost use mathlib.Core.Bool.{true};
+ghost use Prim.Native.Nat.{_+_, _≤_};
+ghost use lib.ListN.{length, take, drop};
 ghost use Rattle.base.specs.Bytes.{same};
 ghost use Rattle.lists.specs.Banks.{ascends, ascendsTo, isBankList, foundIn, member};
 ghost use Rattle.lists.specs.Known.{isKnownList, isKnown};
@@ -45,24 +47,42 @@ pub fn is_bank_list(list: &[u32]) -> bool
     ascends_to(list, 99999999)
 }
 
+// Whether the code is one of the n numbers from a place on. No branch on a number.
+fn one_of(list: &[u32], from: usize, n: usize, code: u32) -> bool
+    requires { ⌜ from + n ≤ length (now list) ⌝ }
+    ensures { λ r. ⌜ r ≡ member code (take n (drop from (now (list .entry)))) ⌝ }
+{
+    let mut found = false;
+    let mut i = 0;
+    while i < n {
+        found = found | (list[from + i] == code);
+        i += 1;
+    }
+    found
+}
+
+// Whether the code is among the n numbers from a place on, by halving more than eight of them: which half needs no branch.
+fn search(list: &[u32], from: usize, n: usize, code: u32) -> bool
+    requires { ⌜ from + n ≤ length (now list) ⌝ }
+    ensures { λ r. ⌜ r ≡ foundIn (take n (drop from (now (list .entry)))) code ⌝ }
+{
+    if n <= 8 {
+        return one_of(list, from, n, code);
+    }
+    let half = n / 2;
+    let mut next = from + half;
+    if list[from + half] > code {
+        next = from;
+    }
+    search(list, next, n - half, code)
+}
+
 // Whether the code is listed, by halving the lent list (01, "a list in strictly ascending order").
 pub fn is_listed(list: &[u32], code: u32) -> bool
     ensures halves { λ r. ⌜ r ≡ foundIn (now (list .entry)) code ⌝ }
     ensures exact { λ r. ⌜ (ascends (now (list .entry)) ≡ true → r ≡ member code (now (list .entry))) ⌝ }
 {
-    if list.len() == 0 {
-        return false;
-    }
-    let mid = list.len() / 2;
-    let x = list[mid];
-    if x == code {
-        return true;
-    }
-    if x < code {
-        is_listed(&list[mid + 1..], code)
-    } else {
-        is_listed(&list[0..mid], code)
-    }
+    search(list, 0, list.len(), code)
 }
 
 // Whether the bytes are whole identifiers (01, refusal 3).
