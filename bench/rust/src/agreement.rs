@@ -1,8 +1,11 @@
-//! Both judges give the same answers: on the messages that are measured, and on damaged ones.
+//! The proved judge and both plain ones give the same answers: on the messages that are measured, and on damaged ones.
 
 use crate::messages::{damaged, given, good, Dice, Given, DAY};
 use crate::plain::{self, Closing, Kind, Lists, Particulars, Refusal, Session};
 use crate::proved::{self, Numbers};
+
+/// The refusal's number or 0 and the numbers of closing, and the table.
+type Verdict = ((u32, Numbers), Vec<u8>);
 
 fn numbers(answer: Result<Closing, Refusal>) -> (u32, Numbers) {
     match answer {
@@ -17,9 +20,14 @@ fn numbers(answer: Result<Closing, Refusal>) -> (u32, Numbers) {
     }
 }
 
-fn plain_by(size: usize, given: &Given, table: &mut [u8], message: &[u8]) -> Result<Closing, Refusal> {
+fn plain_by<const QUICK: bool>(
+    size: usize,
+    given: &Given,
+    table: &mut [u8],
+    message: &[u8],
+) -> Result<Closing, Refusal> {
     let lists = lists(given);
-    let mut session = Session::open(given.day, table)?;
+    let mut session = Session::<QUICK>::open(given.day, table)?;
     for piece in message.chunks(size) {
         session.take(piece, lists, table)?;
     }
@@ -33,36 +41,48 @@ fn lists(given: &Given) -> Lists<'_> {
     }
 }
 
+/// A plain judge's answer and table, whole and by pieces.
+fn plain_verdicts<const QUICK: bool>(given: &Given, message: &[u8], room: usize, size: usize) -> [Verdict; 2] {
+    let (mut a, mut b) = (vec![255; room], vec![255; room]);
+    let whole = numbers(plain::judge::<QUICK>(given.day, lists(given), &mut a, message));
+    let by_pieces = numbers(plain_by::<QUICK>(size, given, &mut b, message));
+    [(whole, a), (by_pieces, b)]
+}
+
 /// The same answer and the same table, whole and by pieces: the numbers of closing, and the table.
 fn same_verdict(given: &Given, message: &[u8], room: usize, size: usize) -> (Numbers, Vec<u8>) {
     let (mut a, mut b) = (vec![255; room], vec![255; room]);
-    let answer = proved::judge(given, &mut a, message);
-    assert_eq!(answer, numbers(plain::judge(given.day, lists(given), &mut b, message)));
-    assert_eq!(a, b);
-    let (mut a, mut b) = (vec![255; room], vec![255; room]);
-    assert_eq!(answer, proved::judge_by(size, given, &mut a, message));
-    assert_eq!(answer, numbers(plain_by(size, given, &mut b, message)));
-    assert_eq!(a, b);
-    (answer.1, a)
+    let whole = proved::judge(given, &mut a, message);
+    let by_pieces = proved::judge_by(size, given, &mut b, message);
+    let verdicts = [(whole, a), (by_pieces, b)];
+    assert_eq!(verdicts, plain_verdicts::<false>(given, message, room, size));
+    assert_eq!(verdicts, plain_verdicts::<true>(given, message, room, size));
+    let [whole, by_pieces] = verdicts;
+    assert_eq!(whole, by_pieces);
+    (whole.0 .1, whole.1)
+}
+
+/// A plain judge's reply: the refusal's number or 0, its length, and the output.
+fn plain_reply<const QUICK: bool>(given: &Given, message: &[u8], p: &Particulars, room: usize) -> (u32, u64, Vec<u8>) {
+    let mut out = vec![1; room];
+    match plain::reply::<QUICK>(given.day, lists(given), message, p, &mut out) {
+        Ok(length) => (0, length as u64, out),
+        Err(refusal) => (refusal as u32, 0, out),
+    }
 }
 
 /// The same reply, and the rest of the output untouched.
 fn same_reply(given: &Given, message: &[u8], time: u32, room: usize) {
-    let (mut a, mut b) = (vec![1; room], vec![1; room]);
+    let mut out = vec![1; room];
     let p = Particulars {
         duplicate: b'@',
         number: 7,
         time,
     };
-    let answer = match plain::reply(given.day, lists(given), message, &p, &mut a) {
-        Ok(length) => (0, length as u64),
-        Err(refusal) => (refusal as u32, 0),
-    };
-    assert_eq!(
-        answer,
-        proved::reply(given, message, p.duplicate, p.number, p.time, &mut b)
-    );
-    assert_eq!(a, b);
+    let (refusal, length) = proved::reply(given, message, p.duplicate, p.number, p.time, &mut out);
+    let reply = (refusal, length, out);
+    assert_eq!(reply, plain_reply::<false>(given, message, &p, room));
+    assert_eq!(reply, plain_reply::<true>(given, message, &p, room));
 }
 
 /// A known identifier is 29, and refusals 1 to 4 are the same: a day that is none, lists that are wrong, a table too long.
@@ -89,7 +109,7 @@ fn check_given(small: &[u8]) {
     }
 }
 
-/// The messages that are measured are good and of their kind, and both judges say so.
+/// The messages that are measured are good and of their kind, and the judges say so.
 fn check_measured(given: &Given, kind: Kind, message: &[u8]) {
     for size in [65_536, 1_000, 100, 1] {
         let (numbers, _) = same_verdict(given, message, 10_000, size);
@@ -99,7 +119,7 @@ fn check_measured(given: &Given, kind: Kind, message: &[u8]) {
     same_reply(given, message, 83_000, 104 + 65 * 10_000);
 }
 
-/// Both judges agree on 100,000 damaged messages of three items that were of a kind, for a clearing day of each weekday.
+/// The judges agree on 100,000 damaged messages of three items that were of a kind, for a clearing day of each weekday.
 fn check_damaged(kind: Kind, name: &str) {
     let days = [0, 1, 2, 3, 4, 5, 6].map(|k| Given {
         day: DAY + k,

@@ -1,6 +1,9 @@
-//! Times of the proved library beside a judge in plain Rust, on the same messages.
+//! Times of the proved library beside a judge in plain Rust, as one writes it and with a quick first pass over text, on the same
+//! messages.
 
 mod agreement;
+#[cfg(check_digit)]
+mod check_digit;
 mod cover;
 mod messages;
 mod plain;
@@ -33,17 +36,19 @@ struct Row<'a> {
     task: Task,
     proved: Duration,
     plain: Duration,
+    /// Of plain Rust with the quick pass.
+    quick: Duration,
 }
 
 fn row<'a>(name: &'static str, given: &'a Given, message: &'a [u8], task: Task) -> Row<'a> {
-    let (proved, plain) = (Duration::MAX, Duration::MAX);
     Row {
         name,
         given,
         message,
         task,
-        proved,
-        plain,
+        proved: Duration::MAX,
+        plain: Duration::MAX,
+        quick: Duration::MAX,
     }
 }
 
@@ -58,45 +63,59 @@ fn least(mut call: impl FnMut()) -> Duration {
     best
 }
 
+/// The least time of the proved and of the plain one over the rounds.
+fn times(rounds: usize, mut proved: impl FnMut(), mut plain: impl FnMut()) -> (Duration, Duration) {
+    let mut best = (Duration::MAX, Duration::MAX);
+    for _ in 0..rounds {
+        best = (best.0.min(least(&mut proved)), best.1.min(least(&mut plain)));
+    }
+    best
+}
+
 impl Row<'_> {
+    /// A round: the proved judge and both plain ones in turn.
     fn measure(&mut self, table: &mut [u8], out: &mut [u8]) {
+        self.proved = self.proved.min(self.proved(table, out));
+        self.plain = self.plain.min(self.plain::<false>(table, out));
+        self.quick = self.quick.min(self.plain::<true>(table, out));
+    }
+
+    fn proved(&self, table: &mut [u8], out: &mut [u8]) -> Duration {
+        let (given, message, p) = (self.given, black_box(self.message), &PARTICULARS);
+        match self.task {
+            Task::Whole => least(|| {
+                black_box(proved::judge(given, table, message));
+            }),
+            Task::Pieces(size) => least(|| {
+                black_box(proved::judge_by(size, given, table, message));
+            }),
+            Task::Reply => least(|| {
+                black_box(proved::reply(given, message, p.duplicate, p.number, p.time, out));
+            }),
+        }
+    }
+
+    fn plain<const QUICK: bool>(&self, table: &mut [u8], out: &mut [u8]) -> Duration {
         let (given, message, p) = (self.given, black_box(self.message), &PARTICULARS);
         let lists = Lists {
             banks: &given.banks,
             known: &given.known,
         };
-        let (proved, plain) = match self.task {
-            Task::Whole => (
-                least(|| {
-                    black_box(proved::judge(given, table, message));
-                }),
-                least(|| {
-                    black_box(plain::judge(given.day, lists, table, message)).unwrap();
-                }),
-            ),
-            Task::Pieces(size) => (
-                least(|| {
-                    black_box(proved::judge_by(size, given, table, message));
-                }),
-                least(|| {
-                    let mut session = Session::open(given.day, table).unwrap();
-                    for piece in message.chunks(size) {
-                        session.take(piece, lists, table).unwrap();
-                    }
-                    black_box(session.close()).unwrap();
-                }),
-            ),
-            Task::Reply => (
-                least(|| {
-                    black_box(proved::reply(given, message, p.duplicate, p.number, p.time, out));
-                }),
-                least(|| {
-                    black_box(plain::reply(given.day, lists, message, p, out)).unwrap();
-                }),
-            ),
-        };
-        self.proved = self.proved.min(proved);
-        self.plain = self.plain.min(plain);
+        match self.task {
+            Task::Whole => least(|| {
+                black_box(plain::judge::<QUICK>(given.day, lists, table, message)).unwrap();
+            }),
+            Task::Pieces(size) => least(|| {
+                let mut session = Session::<QUICK>::open(given.day, table).unwrap();
+                for piece in message.chunks(size) {
+                    session.take(piece, lists, table).unwrap();
+                }
+                black_box(session.close()).unwrap();
+            }),
+            Task::Reply => least(|| {
+                black_box(plain::reply::<QUICK>(given.day, lists, message, p, out)).unwrap();
+            }),
+        }
     }
 }
 
@@ -112,9 +131,10 @@ fn print(rows: &[Row]) {
         rows[0].message.len()
     );
     println!("load: {}", load.trim());
+    println!("quick: plain Rust with the proved library's quick first pass over text");
     println!(
-        "{:38} {:>10} {:>10} {:>13} {:>16} {:>15}",
-        "", "proved", "plain", "proved/plain", "proved, of whole", "plain, of whole"
+        "{:38} {:>10} {:>10} {:>13} {:>10} {:>13} {:>17} {:>16}",
+        "", "proved", "plain", "proved/plain", "quick", "proved/quick", "proved, of whole", "plain, of whole"
     );
     let mut whole = &rows[0];
     for row in rows {
@@ -122,17 +142,19 @@ fn print(rows: &[Row]) {
             whole = row;
         }
         print!(
-            "{:38} {:7.3} ms {:7.3} ms {:13.2}",
+            "{:38} {:7.3} ms {:7.3} ms {:13.2} {:7.3} ms {:13.2}",
             row.name,
             row.proved.as_secs_f64() * 1e3,
             row.plain.as_secs_f64() * 1e3,
             of(row.proved, row.plain),
+            row.quick.as_secs_f64() * 1e3,
+            of(row.proved, row.quick),
         );
         if row.task == Task::Whole {
             println!();
         } else {
             println!(
-                " {:16.2} {:15.2}",
+                " {:17.2} {:16.2}",
                 of(row.proved, whole.proved),
                 of(row.plain, whole.plain)
             );
@@ -152,6 +174,9 @@ fn print_wanted(whole: &Row, pieces: &[Row], thousand: &Row) {
     };
     println!();
     wanted("whole, of plain Rust's time", of(whole.proved, whole.plain), 0.0, 0.8);
+    let most = if cfg!(target_arch = "aarch64") { 1.1 } else { 1.0 };
+    let name = "whole, of plain Rust's time with the quick text pass";
+    wanted(name, of(whole.proved, whole.quick), 0.0, most);
     for (row, most) in pieces.iter().zip([1.05, 1.3, 2.5]) {
         let name = format!("{}, of whole", row.name.trim());
         wanted(&name, of(row.proved, whole.proved), 0.0, most);
@@ -204,5 +229,10 @@ fn main() {
     }
     print(&rows);
     print_wanted(&rows[0], &rows[1..4], &rows[11]);
+    println!();
+    #[cfg(check_digit)]
+    check_digit::print();
+    #[cfg(not(check_digit))]
+    println!("the check digit of annex 6 isn't timed alone: in the library the compiler put it in line everywhere");
     cover::print(&covers);
 }

@@ -51,7 +51,7 @@ pub fn with_check_digit(mut digits: String) -> String {
 }
 
 /// So many digits, the last one the check digit of annex 6.
-fn checked(dice: &mut Dice, digits: usize) -> String {
+pub fn checked(dice: &mut Dice, digits: usize) -> String {
     with_check_digit((1..digits).map(|_| char::from(b'0' + dice.below(10) as u8)).collect())
 }
 

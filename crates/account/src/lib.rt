@@ -74,26 +74,32 @@ pub fn read(s: &[u8]) -> Account
     fault(s)
 }
 
-// Each byte is '0'. A byte that isn't is most often the first.
+// Each byte is '0'. No branch on a byte, so that the compiler takes many at a time.
 fn all_zero(s: &[u8]) -> bool
     ensures { λ r. ⌜ r ≡ every zero (now (s .entry)) ⌝ }
 {
+    let mut ok = true;
     let mut i = 0;
     while i < s.len() {
-        if s[i] != b'0' {
-            return false;
-        }
+        ok = ok & (s[i] == b'0');
         i += 1;
     }
-    true
+    ok
 }
 
-// The account is one of zeros (01, the zero watch).
+// The account is one of zeros (01, the zero watch). Most often the first eight show that it isn't.
 pub fn is_zero(s: &[u8]) -> bool
     ensures { λ r. ⌜ r ≡ isZeroAccount (now (s .entry)) ⌝ }
 {
     if s.len() != 16 {
         return false;
     }
-    all_zero(digits_of(s))
+    if !all_zero(&s[0..8]) {
+        return false;
+    }
+    let last = &s[8..16];
+    if all_zero(last) {
+        return true;
+    }
+    text::is_blank(last)
 }

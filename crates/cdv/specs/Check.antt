@@ -16,10 +16,6 @@ abbrev pub weighed : (ℕ → ℕ) → ℕ → List ℕ → ℕ
 weighed w i [] = 0
 weighed w i (b ∷ bs) = w i * (b - 48) + weighed w (i + 1) bs
 
--- what is left at place i is digits, and a sum with theirs is a multiple of ten
-abbrev pub left : (ℕ → ℕ) → ℕ → ℕ → List ℕ → Bool
-left w sum i s = isDigits s && eqb ((sum + weighed w i s) % 10) 0
-
 -- all are digits, and their weighted sum is a multiple of ten
 abbrev pub balanced : (ℕ → ℕ) → List ℕ → Bool
 balanced w s = isDigits s && eqb (weighed w 0 s % 10) 0

@@ -3,7 +3,7 @@
 use super::agreement::asked;
 use super::{good, Cover, Order, DAY};
 use crate::plain::{self, FEDSTA};
-use crate::{least, of, proved};
+use crate::{of, proved, times};
 use std::hint::black_box;
 use std::time::Duration;
 
@@ -20,18 +20,10 @@ pub fn measured() -> [Cover; 4] {
     ]
 }
 
-/// The least time of the proved and of the plain judge over the rounds.
-fn times(mut proved: impl FnMut(), mut plain: impl FnMut()) -> (Duration, Duration) {
-    let mut best = (Duration::MAX, Duration::MAX);
-    for _ in 0..ROUNDS {
-        best = (best.0.min(least(&mut proved)), best.1.min(least(&mut plain)));
-    }
-    best
-}
-
 fn judging(cover: &Cover) -> (Duration, Duration) {
     let (mut a, mut b, mut numbers) = (vec![0; 10_000], vec![0; 10_000], [0; 2]);
     times(
+        ROUNDS,
         || {
             black_box(proved::judge_fedjel(black_box(cover), &mut a, &mut numbers));
         },
@@ -47,6 +39,7 @@ fn writing(cover: &Cover) -> (Duration, Duration) {
     let (last, mut a, mut b) = (cover.requests.len() - super::REQUEST, [0; FEDSTA], [0; FEDSTA]);
     let asked = asked(cover.requests[last..last + 25].try_into().unwrap());
     times(
+        ROUNDS,
         || {
             black_box(proved::write_fedsta(black_box(cover), &asked, &mut a));
         },

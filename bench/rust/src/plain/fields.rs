@@ -7,9 +7,10 @@ const PURPOSES: [&[u8; 3]; 46] = [
     b"MVZ", b"SZE", b"THO", b"VIL",
 ];
 
-/// Every byte may stand in text: 20h to 7Eh, or a Hungarian letter of code page 852.
-pub fn is_text(field: &[u8]) -> bool {
-    if cfg!(feature = "quick-text") && field.iter().fold(true, |ok, b| ok & matches!(b, b' '..=b'~')) {
+/// Every byte may stand in text: 20h to 7Eh, or a Hungarian letter of code page 852. Where there is a quick pass, letters are looked
+/// for only if it fails.
+pub fn is_text<const QUICK: bool>(field: &[u8]) -> bool {
+    if QUICK && field.iter().fold(true, |ok, b| ok & matches!(b, b' '..=b'~')) {
         return true;
     }
     field.iter().all(|b| {

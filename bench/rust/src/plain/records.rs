@@ -52,17 +52,17 @@ pub struct Head {
     pub code: u8,
 }
 
-pub fn judge_head(r: &[u8; HEAD], e: u32, lists: Lists) -> Head {
+pub fn judge_head<const QUICK: bool>(r: &[u8; HEAD], e: u32, lists: Lists) -> Head {
     let kind = Kind::of(r);
     Head {
         kind,
-        letter: !is_text(&r[69..174]),
-        code: head_code(r, kind, e, lists),
+        letter: !is_text::<QUICK>(&r[69..174]),
+        code: head_code::<QUICK>(r, kind, e, lists),
     }
 }
 
 /// The code of a head's first fault; e is the clearing day's number.
-fn head_code(r: &[u8; HEAD], kind: Kind, e: u32, lists: Lists) -> u8 {
+fn head_code<const QUICK: bool>(r: &[u8; HEAD], kind: Kind, e: u32, lists: Lists) -> u8 {
     if &r[0..2] != b"01" {
         return 41;
     }
@@ -113,7 +113,7 @@ pub struct Item {
     pub zero: bool,
 }
 
-pub fn judge_item(r: &[u8; ITEM], kind: Kind, place: u64, e: u32, banks: &[u32]) -> Item {
+pub fn judge_item<const QUICK: bool>(r: &[u8; ITEM], kind: Kind, place: u64, e: u32, banks: &[u32]) -> Item {
     let amount = number(&r[16..26]);
     let fault = if &r[0..2] != b"02" {
         46
@@ -123,15 +123,22 @@ pub fn judge_item(r: &[u8; ITEM], kind: Kind, place: u64, e: u32, banks: &[u32])
         0
     };
     Item {
-        letter: !is_text(&r[50..249]),
+        letter: !is_text::<QUICK>(&r[50..249]),
         fault,
-        code: item_code(r, kind, place, e, amount, banks),
+        code: item_code::<QUICK>(r, kind, place, e, amount, banks),
         amount: amount.unwrap_or(0),
         zero: is_zero_account(&r[34..50]),
     }
 }
 
-fn item_code(r: &[u8; ITEM], kind: Kind, place: u64, e: u32, amount: Option<u64>, banks: &[u32]) -> u8 {
+fn item_code<const QUICK: bool>(
+    r: &[u8; ITEM],
+    kind: Kind,
+    place: u64,
+    e: u32,
+    amount: Option<u64>,
+    banks: &[u32],
+) -> u8 {
     match number(&r[2..8]) {
         None => return 39,
         Some(n) if n != place => return 32,

@@ -25,7 +25,7 @@ pub(super) fn put_number(field: &mut [u8], mut n: u64) {
     }
 }
 
-fn put_head(out: &mut [u8], day: u32, address: &[u8], particulars: &Particulars, code: u8) {
+fn put_head<const QUICK: bool>(out: &mut [u8], day: u32, address: &[u8], particulars: &Particulars, code: u8) {
     out[0..8].copy_from_slice(b"01STATUS");
     out[8] = particulars.duplicate;
     out[9..34].copy_from_slice(address);
@@ -36,7 +36,7 @@ fn put_head(out: &mut [u8], day: u32, address: &[u8], particulars: &Particulars,
     out[54..56].copy_from_slice(b"\r\n");
 }
 
-fn put_reference(out: &mut [u8], place: u64, code: u8, item: &[u8]) {
+fn put_reference<const QUICK: bool>(out: &mut [u8], place: u64, code: u8, item: &[u8]) {
     out[0..2].copy_from_slice(b"02");
     put_number(&mut out[2..8], place);
     put_number(&mut out[8..10], code.into());
@@ -45,7 +45,7 @@ fn put_reference(out: &mut [u8], place: u64, code: u8, item: &[u8]) {
     out[63..65].copy_from_slice(b"\r\n");
 }
 
-fn put_foot(out: &mut [u8], closing: &Closing) {
+fn put_foot<const QUICK: bool>(out: &mut [u8], closing: &Closing) {
     out[0..2].copy_from_slice(b"03");
     put_number(&mut out[2..8], closing.accepted.count);
     put_number(&mut out[8..24], closing.accepted.sum);
@@ -55,7 +55,7 @@ fn put_foot(out: &mut [u8], closing: &Closing) {
 }
 
 /// The reply to the whole message goes to the front of the output: refusals 1, 2, 3, 6, 7, 8, 9. The answer is its length.
-pub fn reply(
+pub fn reply<const QUICK: bool>(
     day: u32,
     lists: Lists,
     message: &[u8],
@@ -63,7 +63,7 @@ pub fn reply(
     out: &mut [u8],
 ) -> Result<usize, Refusal> {
     let mut codes = [0; 10_000];
-    let closing = judge(day, lists, &mut codes, message)?;
+    let closing = judge::<QUICK>(day, lists, &mut codes, message)?;
     let address = message.get(9..34).ok_or(Refusal::Address)?;
     if !address.iter().all(|b| matches!(b, b' '..=b'~')) {
         return Err(Refusal::Address);
@@ -76,11 +76,11 @@ pub fn reply(
     let out = out.get_mut(..length).ok_or(Refusal::Room)?;
     let (head, rest) = out.split_at_mut(56);
     let (middle, foot) = rest.split_at_mut(references * 65);
-    put_head(head, day, address, particulars, closing.code);
+    put_head::<QUICK>(head, day, address, particulars, closing.code);
     let items = message.get(HEAD + 2..).unwrap_or_default().chunks_exact(ITEM + 2);
     for (((place, out), code), item) in (1..).zip(middle.chunks_exact_mut(65)).zip(&codes).zip(items) {
-        put_reference(out, place, *code, item);
+        put_reference::<QUICK>(out, place, *code, item);
     }
-    put_foot(foot, &closing);
+    put_foot::<QUICK>(foot, &closing);
     Ok(length)
 }

@@ -39,7 +39,7 @@ enum Phase {
     Overflow,
 }
 
-struct Tally {
+struct Tally<const QUICK: bool> {
     phase: Phase,
     /// ATUTAL until a head with its right ending was read.
     kind: Kind,
@@ -51,7 +51,7 @@ struct Tally {
     id: [u8; 25],
 }
 
-impl Tally {
+impl<const QUICK: bool> Tally<QUICK> {
     fn is_open(&self) -> bool {
         matches!(self.phase, Phase::Head | Phase::Items)
     }
@@ -88,7 +88,7 @@ impl Tally {
     }
 
     fn head(&mut self, record: &[u8; HEAD], e: u32, lists: Lists) {
-        let found = judge_head(record, e, lists);
+        let found = judge_head::<QUICK>(record, e, lists);
         self.phase = Phase::Items;
         self.kind = found.kind;
         self.letter = found.letter;
@@ -102,7 +102,7 @@ impl Tally {
             self.phase = Phase::Overflow;
             return;
         };
-        let found = judge_item(record, self.kind, before + 1, e, banks);
+        let found = judge_item::<QUICK>(record, self.kind, before + 1, e, banks);
         *place = found.code;
         self.letter |= found.letter;
         self.fault(found.fault);
@@ -125,16 +125,16 @@ impl Tally {
     }
 }
 
-pub struct Session {
+pub struct Session<const QUICK: bool> {
     e: u32,
     room: usize,
-    tally: Tally,
+    tally: Tally<QUICK>,
     begun: Vec<u8>,
 }
 
-impl Session {
+impl<const QUICK: bool> Session<QUICK> {
     /// Refusals 1, 4.
-    pub fn open(day: u32, table: &[u8]) -> Result<Session, Refusal> {
+    pub fn open(day: u32, table: &[u8]) -> Result<Self, Refusal> {
         let e = day_number(day).ok_or(Refusal::NotADay)?;
         if table.len() > MOST {
             return Err(Refusal::Table);
@@ -219,8 +219,8 @@ impl Session {
 }
 
 /// A whole message: refusals 1, 4, 2, 3, 6.
-pub fn judge(day: u32, lists: Lists, table: &mut [u8], message: &[u8]) -> Result<Closing, Refusal> {
-    let mut session = Session::open(day, table)?;
+pub fn judge<const QUICK: bool>(day: u32, lists: Lists, table: &mut [u8], message: &[u8]) -> Result<Closing, Refusal> {
+    let mut session = Session::<QUICK>::open(day, table)?;
     session.take(message, lists, table)?;
     session.close()
 }

@@ -1,100 +1,72 @@
--- `cdv::is_ean13` meets its contract: one digit at a time, the sum stays small.
+-- `cdv::is_ean13` meets its contract: the sum, with the digits that are left, is that of all thirteen.
 -- Assumes nothing.
-use mathlib.Core.Path.{_≡_, refl, sym, _∙_}
-use mathlib.Core.Bool.{Bool, false}
-use mathlib.Core.List.{List, [], _∷_}
-use Prim.Native.Nat.{ℕ, zero, suc, _+_, _-_, _*_, _%_, _≤_, _<_}
+use mathlib.Core.Path.{_≡_, refl, sym, ap, _∙_}
+use mathlib.Core.Bool.{true, false}
+use mathlib.Core.List.{List}
+use Prim.Native.Nat.{ℕ, _+_, _-_, _*_, _%_, _≤_}
 use native.Mathlib.Omega.{arith}
-use lib.ListN.{length, getD}
+use lib.Dec.{eqb}
+use lib.ListN.{length, drop}
 use borrow.Author.Tests.{eq-eqb, ne-eqb, not-true, not-false}
-use Rattle.cdv.specs.Check.{gs1, balanced, isEan13}
-use Rattle.digits.proofs.Digit.{is-digit}
-use Rattle.cdv.proofs.Weighing.{Walked, start, ends, no, on, product}
+use Rattle.digits.specs.Digits.{isDigits}
+use Rattle.cdv.specs.Check.{weighed, gs1, isEan13}
+use Rattle.cdv.proofs.Weighing.{over}
 use borrow.Author.Needs.{needs}
 use Rattle.cdv.proofs.is_ean13.Statement.{statement}
 use Rattle.cdv.proofs.is_ean13.Tie as tie
 
--- weights 1 and 3 in turn
-turn : (k : ℕ) → k < 2 → k * 2 + 1 ≡ getD (1 ∷ 3 ∷ []) k 0
-turn zero h = refl
-turn (suc zero) h = refl
-turn (suc (suc k)) h = absurd (omega arith)
+record Twos (s : List ℕ) (sum i : ℕ) : Type 0 where
+  whole : sum + weighed gs1 i (drop i s) ≡ weighed gs1 0 s
+  cycle : i % 2 ≡ 0
+  last : i ≤ 14
+  small : sum ≤ 18 * i
 
-record Ean (s : List ℕ) (sum i : ℕ) : Type 0 where
-  walked : Walked (balanced gs1 s) gs1 s sum i
-  long : length s ≡ 13
-  small : sum ≤ 27 * i
+module _ (s : List ℕ) where
+  other : (length s ≡ 13 → ⊥) → false ≡ isEan13 s
+  unfolding isEan13
+  other f = simp (ne-eqb (length s) 13 f)
 
-no-ean : (s : List ℕ) → (length s ≡ 13 → ⊥) → false ≡ isEan13 s
-unfolding isEan13
-no-ean s f = simp (ne-eqb (length s) 13 f)
+  no-digits : length s ≡ 13 → isDigits s ≡ false → false ≡ isEan13 s
+  unfolding isEan13
+  no-digits h e = simp (eq-eqb (length s) 13 h, e)
 
-is-ean : (s : List ℕ) (r : Bool) → length s ≡ 13 → r ≡ balanced gs1 s → r ≡ isEan13 s
-unfolding isEan13
-is-ean s r h e = simp (eq-eqb (length s) 13 h) e
+  by-sum : length s ≡ 13 → isDigits s ≡ true → eqb (weighed gs1 0 s % 10) 0 ≡ isEan13 s
+  unfolding isEan13
+  by-sum h e = simp (eq-eqb (length s) 13 h, e)
 
 abbrev Inv-loop : tie.InvT-loop
-Inv-loop s sum₀ i₀ sum i = Ean s sum i
+Inv-loop s sum₀ i₀ sum i = Twos s sum i
 
 abbrev μ-loop : tie.MeasureT-loop
-μ-loop s sum₀ i₀ sum i = 13 - i
+μ-loop s sum₀ i₀ sum i = 14 - i
 
 returns : tie.Need-returns Inv-loop μ-loop
-returns c = no-ean (c .before .before .args .s .now) (c .if1 .taken)
+returns c = other (c .before .before .args .s .now) (c .if1 .taken)
 
-loop-holds : tie.Need-loop-holds Inv-loop μ-loop
-loop-holds c = record { walked = start gs1 (c .before .before .args .s .now); long = c .if1 .left; small = omega arith }
-
-shared-slice-read-b : tie.Need-shared-slice-read-b Inv-loop μ-loop
-shared-slice-read-b c = search needs
-
-is-digit-requires : tie.Need-is-digit-requires Inv-loop μ-loop
-is-digit-requires c κs = search needs
+is-digits-requires : tie.Need-is-digits-requires Inv-loop μ-loop
+is-digits-requires c κs = search needs
 
 returns-2 : tie.Need-returns-2 Inv-loop μ-loop
 returns-2 c =
-    let c1 = c .before .before .before .before in
-    let c2 = c1 .before in
-    let c3 = c2 .before .before in
-    is-ean (c3 .args .s .now) _ (c2 .if1 .left) (no (c1 .loop .inv .walked) (omega arith) (sym (c .before .is-digit .ensures) ∙ not-true _ (c .if2 .taken)))
+    let c1 = c .before .before in
+    no-digits (c1 .before .before .args .s .now) (c1 .if1 .left) (sym (c .before .is-digits .ensures) ∙ not-true _ (c .if2 .taken))
 
-mul-sum : tie.Need-mul-sum Inv-loop μ-loop
-mul-sum c = search needs
+loop-holds : tie.Need-loop-holds Inv-loop μ-loop
+loop-holds c = record { whole = omega arith; cycle = refl; last = omega arith; small = omega arith }
+
+two-requires : tie.Need-two-requires Inv-loop μ-loop
+two-requires c κs =
+    let at-loop = c .before in
+    let c2 = at-loop .before in (
+      sym (c2 .before .is-digits .ensures) ∙ not-false _ (c2 .if2 .left),
+      at-loop .loop .inv .cycle,
+      omega (arith, c2 .before .before .if1 .left, c .loop-test .taken),
+    )
 
 add-sum : tie.Need-add-sum Inv-loop μ-loop
-add-sum c = search needs
-
-sub-sum : tie.Need-sub-sum Inv-loop μ-loop
-sub-sum c =
-    let c1 = c .before .before .before .before in
-    let c2 = c1 .before .before .before in
-    omega (arith, is-digit (getD (c2 .args .s .now) (c1 .loop .i) 0) (sym (c .before .is-digit .ensures) ∙ not-false _ (c .if2 .left)))
-
-cast-sum : tie.Need-cast-sum Inv-loop μ-loop
-cast-sum c =
-    let c1 = c .before .before .before .before in
-    let c2 = c1 .before .before .before in
-    omega (arith, is-digit (getD (c2 .args .s .now) (c1 .loop .i) 0) (sym (c .before .is-digit .ensures) ∙ not-false _ (c .if2 .left)))
-
-mul-sum-2 : tie.Need-mul-sum-2 Inv-loop μ-loop
-mul-sum-2 c =
-    let c1 = c .before .before .before .before in
-    let c2 = c1 .before .before .before in
-    omega (
-      arith,
-      product (c1 .loop .i % 2 * 2 + 1) 3 (getD (c2 .args .s .now) (c1 .loop .i) 0) (omega arith)
-          (sym (c .before .is-digit .ensures) ∙ not-false _ (c .if2 .left)),
-    )
-
-add-sum-2 : tie.Need-add-sum-2 Inv-loop μ-loop
-add-sum-2 c =
-    let c1 = c .before .before .before .before in
-    let c2 = c1 .before .before .before in
-    omega (
-      arith,
-      product (c1 .loop .i % 2 * 2 + 1) 3 (getD (c2 .args .s .now) (c1 .loop .i) 0) (omega arith)
-          (sym (c .before .is-digit .ensures) ∙ not-false _ (c .if2 .left)),
-    )
+add-sum c =
+    let inv = c .before .before .loop .inv in
+    omega (arith, inv .small, inv .last, c .two .ensures .1)
 
 add-i : tie.Need-add-i Inv-loop μ-loop
 add-i c = search needs
@@ -104,19 +76,31 @@ loop-less c = search needs
 
 loop-again : tie.Need-loop-again Inv-loop μ-loop
 loop-again c =
-    let c1 = c .before .before .before .before in
-    let c2 = c1 .before .before .before in
-    let p = product (c1 .loop .i % 2 * 2 + 1) 3 (getD (c2 .args .s .now) (c1 .loop .i) 0) (omega arith)
-    (sym (c .before .is-digit .ensures) ∙ not-false _ (c .if2 .left)) in
+    let inv = c .before .before .loop .inv in
     record {
-      walked = on (c1 .loop .inv .walked) (omega arith) (sym (c .before .is-digit .ensures) ∙ not-false _ (c .if2 .left)) (c1 .loop .i % 2 * 2 + 1)
-          (turn (c1 .loop .i % 2) (omega arith)) (c1 .loop .sum) refl;
-      long = c1 .loop .inv .long;
-      small = omega arith;
+      whole = omega (arith, inv .whole, c .two .ensures .0);
+      cycle = omega (arith, inv .cycle);
+      last = omega (arith, inv .cycle, c .before .loop-test .taken);
+      small = omega (arith, inv .small, c .two .ensures .1);
     }
 
+is-tens-requires : tie.Need-is-tens-requires Inv-loop μ-loop
+is-tens-requires c κs =
+    let inv = c .before .loop .inv in
+    omega (arith, inv .small, inv .last)
+
 returns-3 : tie.Need-returns-3 Inv-loop μ-loop
-returns-3 c = is-ean (c .before .before .before .before .args .s .now) _ (c .before .before .if1 .left) (ends (c .before .loop .inv .walked) (omega arith))
+returns-3 c =
+    let at-loop = c .before .before in
+    let c2 = at-loop .before in
+    let c1 = c2 .before .before in
+    let s = c1 .before .before .args .s .now in
+    let i = at-loop .loop .i in
+    let o = over gs1 s i i (omega (arith, c1 .if1 .left, c .before .loop-test .left)) in
+    let e : at-loop .loop .sum ≡ weighed gs1 0 s = omega (arith, at-loop .loop .inv .whole, o) in
+    c .is-tens .ensures
+    ∙ ap (λ (n : ℕ). eqb (n % 10) 0) e
+    ∙ by-sum s (c1 .if1 .left) (sym (c2 .before .is-digits .ensures) ∙ not-false _ (c2 .if2 .left))
 
 pub is-ean13-spec : {M : Type 1} → statement M
 is-ean13-spec =
@@ -125,17 +109,13 @@ is-ean13-spec =
     Inv-loop
     μ-loop
     returns
-    loop-holds
-    shared-slice-read-b
-    is-digit-requires
+    is-digits-requires
     returns-2
-    mul-sum
+    loop-holds
+    two-requires
     add-sum
-    sub-sum
-    cast-sum
-    mul-sum-2
-    add-sum-2
     add-i
     loop-less
     loop-again
+    is-tens-requires
     returns-3)

@@ -1,121 +1,97 @@
--- `cdv::satisfies` meets its contract: four digits at a time, then the rest; the sum keeps its last digit and stays small.
+-- `cdv::satisfies` meets its contract: no digit is left after the eighth or the sixteenth.
 -- Assumes nothing.
-use mathlib.Core.Path.{_≡_, refl, sym, _∙_}
+use mathlib.Core.Path.{_≡_, refl, sym, ap, _∙_}
+use mathlib.Core.Bool.{Bool, true, false}
 use mathlib.Core.List.{List}
-use Prim.Native.Nat.{ℕ, _-_, _%_, _≤_}
+use Prim.Native.Nat.{ℕ, _+_, _%_}
 use native.Mathlib.Omega.{arith}
-use lib.ListN.{length}
+use lib.Dec.{eqb}
 use borrow.Author.Tests.{not-true, not-false}
-use Rattle.cdv.specs.Check.{cdv, balanced, satisfies}
-use Rattle.cdv.proofs.Weighing.{Walked, start, no-four, on-four}
+use Rattle.digits.specs.Digits.{isDigits}
+use Rattle.cdv.specs.Check.{weighed, cdv, satisfies}
+use Rattle.cdv.proofs.Weighing.{over, by-sum}
 use borrow.Author.Needs.{needs}
 use Rattle.cdv.proofs.satisfies.Statement.{statement}
 use Rattle.cdv.proofs.satisfies.Tie as tie
 
-record Fours (s : List ℕ) (sum i : ℕ) : Type 0 where
-  walked : Walked (balanced cdv s) cdv s sum i
-  low : i ≤ length s
-  four : i % 4 ≡ 0
-  small : sum ≤ 1000200
-
-abbrev Inv-loop : tie.InvT-loop
-Inv-loop s n sum₀ i₀ sum i = Fours s sum i
-
-abbrev μ-loop : tie.MeasureT-loop
-μ-loop s n sum₀ i₀ sum i = length s - i
-
-loop-holds : tie.Need-loop-holds Inv-loop μ-loop
-loop-holds c = record { walked = start cdv (c .before .args .s .now); low = omega arith; four = refl; small = omega arith }
-
-sub-loop : tie.Need-sub-loop Inv-loop μ-loop
-sub-loop c = search needs
-
-shared-slice-read-a : tie.Need-shared-slice-read-a Inv-loop μ-loop
-shared-slice-read-a c = search needs
-
-add-b : tie.Need-add-b Inv-loop μ-loop
-add-b c = search needs
-
-shared-slice-read-b : tie.Need-shared-slice-read-b Inv-loop μ-loop
-shared-slice-read-b c = search needs
-
-add-c : tie.Need-add-c Inv-loop μ-loop
-add-c c = search needs
-
-shared-slice-read-c : tie.Need-shared-slice-read-c Inv-loop μ-loop
-shared-slice-read-c c = search needs
-
-add-d : tie.Need-add-d Inv-loop μ-loop
-add-d c = search needs
-
-shared-slice-read-d : tie.Need-shared-slice-read-d Inv-loop μ-loop
-shared-slice-read-d c = search needs
-
-are-digits-requires : tie.Need-are-digits-requires Inv-loop μ-loop
-are-digits-requires c κs = search needs
-
-returns : tie.Need-returns Inv-loop μ-loop
+no-digits : (s : List ℕ) → isDigits s ≡ false → false ≡ satisfies s
 unfolding satisfies
-returns c =
-    let c1 = c .before .before .before .before .before .before .before in
-    no-four (c1 .loop .inv .walked) (omega arith) (sym (c .before .are-digits .ensures) ∙ not-true _ (c .if1 .taken))
+no-digits s e = simp e
 
-lowered-requires : tie.Need-lowered-requires Inv-loop μ-loop
-lowered-requires c κs = search needs
+-- a sum that is that of all digits
+summed : (s : List ℕ) → isDigits s ≡ true → {r : Bool} (n : ℕ) → r ≡ eqb (n % 10) 0 → n ≡ weighed cdv 0 s → r ≡ satisfies s
+summed s e n q p = q ∙ ap (λ (m : ℕ). eqb (m % 10) 0) p ∙ by-sum s e
 
-weigh-requires : tie.Need-weigh-requires Inv-loop μ-loop
-weigh-requires c κs = sym (c .before .before .are-digits .ensures) ∙ not-false _ (c .before .if1 .left)
+is-digits-requires : tie.Need-is-digits-requires
+is-digits-requires c κs = search needs
 
-add-sum : tie.Need-add-sum Inv-loop μ-loop
-add-sum c = search needs
+returns : tie.Need-returns
+returns c = no-digits (c .before .before .before .args .s .now) (sym (c .before .is-digits .ensures) ∙ not-true _ (c .if1 .taken))
 
-add-i : tie.Need-add-i Inv-loop μ-loop
-add-i c = search needs
+eight-requires : tie.Need-eight-requires
+eight-requires c κs =
+    let c1 = c .before in
+    (sym (c1 .before .is-digits .ensures) ∙ not-false _ (c1 .if1 .left), refl, omega (arith, c .if2 .taken))
 
-loop-less : tie.Need-loop-less Inv-loop μ-loop
-loop-less c = search needs
+is-tens-requires : tie.Need-is-tens-requires
+is-tens-requires c κs = search needs
 
-loop-again : tie.Need-loop-again Inv-loop μ-loop
-loop-again c =
-    let c1 = c .before .before .before in
-    let c2 = c1 .before .before .before .before .before .before in
-    record {
-      walked = on-four (c2 .loop .inv .walked) (omega arith) (c2 .loop .inv .four) (sym (c1 .are-digits .ensures) ∙ not-false _ (c .before .before .if1 .left))
-          (c .before .lowered .result) (c .before .lowered .ensures .0) (c .weigh .result) (c .weigh .ensures .0);
-      low = omega arith;
-      four = omega arith;
-      small = omega arith;
-    }
+returns-2 : tie.Need-returns-2
+returns-2 c =
+    let c2 = c .before .before in
+    let c1 = c2 .before in
+    let s = c1 .before .before .before .args .s .now in
+    summed s (sym (c1 .before .is-digits .ensures) ∙ not-false _ (c1 .if1 .left)) (c .before .eight .result) (c .is-tens .ensures)
+    (omega (arith, c .before .eight .ensures .0, over cdv s 8 8 (omega (arith, c2 .if2 .taken))))
 
-rest-requires : tie.Need-rest-requires Inv-loop μ-loop
-rest-requires c κs = search needs
+eight-requires-2 : tie.Need-eight-requires-2
+eight-requires-2 c κs =
+    let c1 = c .before .before in
+    (sym (c1 .before .is-digits .ensures) ∙ not-false _ (c1 .if1 .left), refl, omega (arith, c .if3 .taken))
 
-returns-2 : tie.Need-returns-2 Inv-loop μ-loop
-unfolding satisfies
-returns-2 c = c .rest .ensures ∙ c .before .before .loop .inv .walked .decides
+eight-requires-3 : tie.Need-eight-requires-3
+eight-requires-3 c κs =
+    let c3 = c .before in
+    let c1 = c3 .before .before in
+    (sym (c1 .before .is-digits .ensures) ∙ not-false _ (c1 .if1 .left), refl, omega (arith, c3 .if3 .taken))
+
+add-is-tens : tie.Need-add-is-tens
+add-is-tens c = search needs
+
+is-tens-requires-2 : tie.Need-is-tens-requires-2
+is-tens-requires-2 c κs = search needs
+
+returns-3 : tie.Need-returns-3
+returns-3 c =
+    let last = c .before in
+    let first = last .before in
+    let c3 = first .before in
+    let c1 = c3 .before .before in
+    let s = c1 .before .before .before .args .s .now in
+    summed s (sym (c1 .before .is-digits .ensures) ∙ not-false _ (c1 .if1 .left)) (first .eight2 .result + last .eight3 .result) (c .is-tens2 .ensures)
+    (omega (arith, first .eight2 .ensures .0, last .eight3 .ensures .0, over cdv s 16 16 (omega (arith, c3 .if3 .taken))))
+
+any-requires : tie.Need-any-requires
+any-requires c κs =
+    let c1 = c .before .before in
+    sym (c1 .before .is-digits .ensures) ∙ not-false _ (c1 .if1 .left)
+
+returns-4 : tie.Need-returns-4
+returns-4 c = search needs
 
 pub satisfies-spec : {M : Type 1} → statement M
 satisfies-spec =
     tie.close
     (tie.spec
-    Inv-loop
-    μ-loop
-    loop-holds
-    sub-loop
-    shared-slice-read-a
-    add-b
-    shared-slice-read-b
-    add-c
-    shared-slice-read-c
-    add-d
-    shared-slice-read-d
-    are-digits-requires
+    is-digits-requires
     returns
-    lowered-requires
-    weigh-requires
-    add-sum
-    add-i
-    loop-less
-    loop-again
-    rest-requires
-    returns-2)
+    eight-requires
+    is-tens-requires
+    returns-2
+    eight-requires-2
+    eight-requires-3
+    add-is-tens
+    is-tens-requires-2
+    returns-3
+    any-requires
+    returns-4)
