@@ -11,90 +11,11 @@ use lib.Dec.{leb, ltb, eqb}
 use borrow.Author.Tests.{le-leb, lt-leb, leb-true, leb-false, eqb-true, eqb-false, eq-eqb, ne-eqb, lt-ltb, le-ltb, ltb-true, ltb-false, not-true}
 use Rattle.base.proofs.Every.{both}
 use Rattle.frame.specs.declared.Found.{Found}
-use Rattle.frame.specs.Records.{
-  Sizes,
-  lengths,
-  noId,
-  idOf,
-  ended,
-  isFoot,
-  itemStands,
-  footStands,
-  itemsIn,
-  restAfter,
-  headStands,
-  headOf,
-  itemsOf,
-  restOf,
-  footOf,
-  isBroken,
-}
-use Rattle.frame.specs.Verdict.{
-  Rules,
-  Verdict,
-  first,
-  any,
-  accepted,
-  refused,
-  total,
-  watched,
-  blank,
-  overflow,
-  given,
-  counted,
-  findings,
-  foundIn,
-  messageCode,
-  identifier,
-  toldBy,
-  overflows,
-  verdict,
-  tableAfter,
-}
-use Rattle.frame.specs.Machine.{
-  State,
-  fresh,
-  at,
-  items,
-  sum,
-  earlier,
-  size,
-  headRead,
-  itemTally,
-  itemCounted,
-  itemRead,
-  footTally,
-  footRead,
-  judged,
-  step,
-  run,
-  closing,
-}
+use Rattle.frame.specs.Records.{Sizes, lengths, noId, ended, isFoot, itemStands, footStands, itemsIn, restAfter}
+use Rattle.frame.specs.Verdict.{Rules, Verdict, blank, overflow, given, counted, findings, messageCode, identifier, toldBy, verdict, tableAfter}
+use Rattle.frame.specs.Machine.{State, fresh, at, items, size, headRead, itemTally, itemCounted, itemRead, footTally, footRead, judged, run, closing}
 use Rattle.frame.proofs.Pieces.{foot-front, run-kept, run-record, run-broken, run-overflown, run-after}
-use Rattle.frame.proofs.Counting.{
-  tallied,
-  findings-length,
-  tally-phase,
-  tally-held,
-  tally-told,
-  tally-id,
-  tally-letter,
-  tally-code,
-  tally-accepted,
-  tally-accepted-sum,
-  tally-refused,
-  tally-refused-sum,
-  tally-zeros,
-  counted-items,
-  tally-items,
-  tally-sum,
-  counted-length,
-  tally-table,
-  earlier-assoc,
-  none-earlier,
-  map-take,
-  findings-take,
-}
+use Rattle.frame.proofs.Counting.{tallied, counted-items, counted-length}
 
 -- the ending shows in the part that is taken
 pub ended-front : (n : ℕ) (x : List ℕ) → n + 2 ≤ length x → ended n (take (n + 2) x) ≡ ended n x
