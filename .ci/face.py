@@ -12,7 +12,14 @@ from pathlib import Path
 ROOT = Path(__file__).resolve().parent.parent
 
 # Names that differ in the header: of refusals, and of arguments.
-REFUSALS = {"NotADay": "DAY", "BankList": "BANKS", "KnownList": "KNOWN", "RequestList": "REQUESTS", "Fedjel": "NOT_FEDJEL"}
+REFUSALS = {
+    "NotADay": "DAY",
+    "BankList": "BANKS",
+    "KnownList": "KNOWN",
+    "RequestList": "REQUESTS",
+    "Fedjel": "NOT_FEDJEL",
+    "BarredList": "BARRED",
+}
 ARGUMENTS = {("nsh_single", "x"): "record"}
 
 # The buffers whose size a call looks at.

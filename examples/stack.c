@@ -2,11 +2,11 @@
 
        stack FEDJEL REQUESTS FILE ..
 
-   Each FILE is a message of either kind for the day and the banks of samples/, whose head and first item are right. FEDJEL has code 00 by
-   the requests in REQUESTS, on the same day. Each has under 65,536 bytes. A call runs on a stack of its own that is painted beforehand: as
-   deep as the paint is gone, so much did the call take, with the few bytes of the functions that make it. The most of each call over all
-   files is printed. Exit status 1, with a line on standard error, where a call gives another answer than it should or takes more stack than
-   the header says; 2 where a file isn't named or can't be read. */
+   Each FILE is a message of either kind for the day and the banks of samples/, whose head and first item are right. It is judged with no bank
+   barred and then with all of them. FEDJEL has code 00 by the requests in REQUESTS, on the same day. Each has under 65,536 bytes. A call runs
+   on a stack of its own that is painted beforehand: as deep as the paint is gone, so much did the call take, with the few bytes of the functions
+   that make it. The most of each call over all files is printed. Exit status 1, with a line on standard error, where a call gives another
+   answer than it should or takes more stack than the header says; 2 where a file isn't named or can't be read. */
 #define _XOPEN_SOURCE 700
 #include <stdio.h>
 #include <stdlib.h>
@@ -25,6 +25,7 @@
 #define FEDJEL_HEAD 34
 #define FEDJEL_ITEM 72
 #define BANKS 4096
+#define BARRED 1000
 #define PAINT 0xA5
 
 enum { OPEN, PIECE, CLOSE, JUDGE, SINGLE, REPLY, READ, FEDJEL, FEDSTA, CALLS };
@@ -32,10 +33,10 @@ enum { OPEN, PIECE, CLOSE, JUDGE, SINGLE, REPLY, READ, FEDJEL, FEDSTA, CALLS };
 /* What the calls are lent. */
 static uint8_t message[65536], session[NSH_SESSION_BYTES], table[NSH_TABLE_MOST], out[65536], id[NSH_ID_BYTES], other_id[NSH_ID_BYTES];
 static uint8_t known[1000 * NSH_ID_BYTES], requests[65536];
-static uint32_t banks[BANKS];
+static uint32_t banks[BANKS], barred[BARRED];
 static uint64_t closed[NSH_CLOSING_NUMBERS], judged[NSH_CLOSING_NUMBERS], replied[NSH_REPLY_NUMBERS], status[NSH_STATUS_NUMBERS];
 static uint64_t covered[NSH_FEDJEL_NUMBERS];
-static size_t message_len, requests_len;
+static size_t message_len, requests_len, barred_len;
 
 /* A piece, a request, or a single record, its place and its message's kind. */
 static const uint8_t *part;
@@ -59,17 +60,17 @@ static uint32_t called(void)
     case OPEN:
         return nsh_open(DAY, table, sizeof table, session, sizeof session);
     case PIECE:
-        return nsh_piece(session, sizeof session, part, part_len, banks, BANKS, known, sizeof known, table, sizeof table);
+        return nsh_piece(session, sizeof session, part, part_len, banks, BANKS, known, sizeof known, barred, barred_len, table, sizeof table);
     case CLOSE:
         return nsh_close(session, sizeof session, closed, NSH_CLOSING_NUMBERS, id, sizeof id);
     case JUDGE:
-        return nsh_judge(message, message_len, DAY, banks, BANKS, known, sizeof known, table, sizeof table, judged, NSH_CLOSING_NUMBERS,
-                         other_id, sizeof other_id);
+        return nsh_judge(message, message_len, DAY, banks, BANKS, known, sizeof known, barred, barred_len, table, sizeof table, judged,
+                         NSH_CLOSING_NUMBERS, other_id, sizeof other_id);
     case SINGLE:
         return nsh_single(part, part_len, DAY, banks, BANKS, known, sizeof known, place, kind);
     case REPLY:
-        return nsh_reply(message, message_len, DAY, banks, BANKS, known, sizeof known, '0', NUMBER, TIME, out, sizeof out, replied,
-                         NSH_REPLY_NUMBERS);
+        return nsh_reply(message, message_len, DAY, banks, BANKS, known, sizeof known, barred, barred_len, '0', NUMBER, TIME, out, sizeof out,
+                         replied, NSH_REPLY_NUMBERS);
     case READ:
         return nsh_read_status(out, (size_t)replied[0], table, sizeof table, status, NSH_STATUS_NUMBERS, other_id, sizeof other_id);
     case FEDJEL:
@@ -159,6 +160,26 @@ static void judge_all_ways(void)
          "nsh_read_status beside nsh_close");
 }
 
+/* The message with no bank barred and with all of them. The bar refuses every item of an ATUTAL with 14 and alters nothing else (02 #105). */
+static void judge_without_and_under_bar(void)
+{
+    uint64_t wanted[NSH_CLOSING_NUMBERS];
+
+    barred_len = 0;
+    judge_all_ways();
+    memcpy(wanted, closed, sizeof closed);
+    if (closed[6] == NSH_MESSAGE_ATUTAL) {
+        wanted[1] = wanted[2] = wanted[5] = 0;
+        wanted[3] = closed[1] + closed[3];
+        wanted[4] = closed[2] + closed[4];
+    }
+    barred_len = BARRED;
+    judge_all_ways();
+    hold(memcmp(closed, wanted, sizeof closed) == 0, "nsh_close under a bar");
+    for (size_t k = 0; k < status[9]; k++)
+        hold(table[k] == 14 || closed[6] != NSH_MESSAGE_ATUTAL, "an item's code under a bar");
+}
+
 /* Whether an item with code 0 has the identifier. */
 static int stands(const uint8_t *request)
 {
@@ -220,9 +241,11 @@ int main(int argc, char **argv)
     }
     for (uint32_t i = 0; i < BANKS; i++)
         banks[i] = i < BANKS - 3 ? i : own[i - (BANKS - 3)];
+    for (uint32_t i = 0; i < BARRED; i++)
+        barred[i] = i;
     for (int i = 3; i < argc; i++) {
         message_len = read_whole(argv[i], message);
-        judge_all_ways();
+        judge_without_and_under_bar();
     }
     message_len = read_whole(argv[1], message);
     requests_len = read_whole(argv[2], requests);

@@ -51,6 +51,7 @@ extern "C" {
 #define NSH_REQUESTS 11    /* the requests aren't of 65 bytes each, a sum isn't digits, or an identifier comes twice */
 #define NSH_NOT_FEDJEL 12  /* the message's lengths or endings aren't a FEDJEL's */
 #define NSH_STANDING 13    /* no such request, no standing answer to it, or answer 1 and a bank without cover */
+#define NSH_BARRED 15      /* the barred list isn't strictly ascending, or holds a number over 999 */
 #define NSH_SIZE 99        /* a session, numbers or id buffer has another size than above */
 
 /* Kinds of message. A message whose head, 174 bytes with its right ending, has BESZED in its positions 3-8 is BESZED; any other is
@@ -62,16 +63,26 @@ extern "C" {
    day     the clearing day as a number, yyyymmdd
    banks   the bank list, numbers of at most eight digits, strictly ascending
    known   the identifiers already seen, 25 bytes each, end to end
-   table   the code table: the k-th item's code goes to byte k as a number, 0 where the item is accepted; other bytes stay */
+   barred  the barred list, the codes of banks under a payment bar: numbers of at most three digits, strictly ascending (5 is bank code 005)
+   table   the code table: the k-th item's code goes to byte k as a number, 0 where the item is accepted; other bytes stay
+   A list may be empty. */
+
+/* A bar (02 #105). The bank list says which banks there are, the barred list which of them may not pay. The head bank of an ATUTAL is barred
+   where the head is there with its right ending, its positions 35-42 are eight digits and the number in 35-37 is on the barred list; its check
+   digit and the bank list don't matter for that. Such a message is refused item by item: every code that goes to the table is 14, in place of
+   0 too (002 section 1.3.1). The message code is what it is without the bar, and a bank that isn't in the bank list still a fault of code 1;
+   with message code 0 the accepted count and sum and the zero watch are 0, and the refused count and sum are those of all items. BESZED knows
+   no bar, though a call refuses a wrong barred list with it too. */
 
 /* A session is opened: refusals 99, 1, 4. Only the table's length counts here. The session is written over the whole buffer; after
    refusals 1 and 4 the buffer holds a closed session, which each call refuses with 5. After 99 it is as it was. */
 uint32_t nsh_open(uint32_t day, const uint8_t *table, size_t table_len, uint8_t *session, size_t session_len);
 
-/* The next piece of the message, of any length: refusals 99, 5, 2, 3, 4. The buffer then holds the session to use next, and the table
-   the codes of the items that were completed. The table is as long as at opening; the same lists come with each piece. */
+/* The next piece of the message, of any length: refusals 99, 5, 2, 3, 15, 4. The buffer then holds the session to use next, and the table
+   the codes of the items that were completed. The table is as long as at opening; the same lists come with each piece. Whether the head's
+   bank is barred the session learns once, by the barred list of the piece that brings the last byte of the head's ending, and keeps it. */
 uint32_t nsh_piece(uint8_t *session, size_t session_len, const uint8_t *bytes, size_t bytes_len, const uint32_t *banks, size_t banks_len,
-                   const uint8_t *known, size_t known_len, uint8_t *table, size_t table_len);
+                   const uint8_t *known, size_t known_len, const uint32_t *barred, size_t barred_len, uint8_t *table, size_t table_len);
 
 /* The message is over: refusals 99, 5, 6. numbers: message code, accepted count, accepted sum, refused count, refused sum, zero watch
    (accepted items whose account is all zeros), kind of message; with a code other than 0 the five after the code are 0, and the kind is
@@ -79,15 +90,16 @@ uint32_t nsh_piece(uint8_t *session, size_t session_len, const uint8_t *bytes, s
    closed session. 6 closes the session too, and leaves numbers and id as they were. */
 uint32_t nsh_close(uint8_t *session, size_t session_len, uint64_t *numbers, size_t numbers_len, uint8_t *id, size_t id_len);
 
-/* A whole message at once: refusals 99, 1, 4, 2, 3, 6. numbers and id as in nsh_close. With 6 the codes of the items that had a byte
+/* A whole message at once: refusals 99, 1, 4, 2, 3, 15, 6. numbers and id as in nsh_close. With 6 the codes of the items that had a byte
    are in the table; numbers and id are as they were. */
 uint32_t nsh_judge(const uint8_t *message, size_t message_len, uint32_t day, const uint32_t *banks, size_t banks_len, const uint8_t *known,
-                   size_t known_len, uint8_t *table, size_t table_len, uint64_t *numbers, size_t numbers_len, uint8_t *id, size_t id_len);
+                   size_t known_len, const uint32_t *barred, size_t barred_len, uint8_t *table, size_t table_len, uint64_t *numbers,
+                   size_t numbers_len, uint8_t *id, size_t id_len);
 
 /* A single head (174 bytes) or item (249), without its ending. place is the number that an item has to carry, kind the kind of the message
    that it comes from: 1 is BESZED, any other number ATUTAL. A head takes any place and any kind; its positions 3-8 tell its own.
    Returns 0 where the record is accepted; below 100 a refusal: 1, 2, 3, 10; else 100 x the field's number + that of the kind of fault. A
-   bad letter comes first, then the fields in order, and in a field the first kind. */
+   bad letter comes first, then the fields in order, and in a field the first kind. A single record knows no bar. */
 uint32_t nsh_single(const uint8_t *record, size_t record_len, uint32_t day, const uint32_t *banks, size_t banks_len, const uint8_t *known,
                     size_t known_len, uint32_t place, uint32_t kind);
 
@@ -132,11 +144,12 @@ uint32_t nsh_single(const uint8_t *record, size_t record_len, uint32_t day, cons
 #define NSH_KIND_CHECK_DIGIT_OVER_EIGHT 15
 #define NSH_KIND_CHECK_DIGIT_OVER_SIXTEEN 16
 
-/* The STATUS reply to a whole message goes to the front of out: refusals 99, 1, 2, 3, 6, 7, 8, 9. numbers[0] is its length, 104 bytes
-   or 104 + 65 for each item; bytes of out beyond it stay. duplicate is '0' or '@', number the reply's, time hhmmss. */
+/* The STATUS reply to a whole message goes to the front of out: refusals 99, 1, 2, 3, 15, 6, 7, 8, 9. numbers[0] is its length, 104 bytes
+   or 104 + 65 for each item; bytes of out beyond it stay. duplicate is '0' or '@', number the reply's, time hhmmss. Under a bar each
+   reference has code 14. */
 uint32_t nsh_reply(const uint8_t *message, size_t message_len, uint32_t day, const uint32_t *banks, size_t banks_len, const uint8_t *known,
-                   size_t known_len, uint8_t duplicate, uint32_t number, uint32_t time, uint8_t *out, size_t out_len, uint64_t *numbers,
-                   size_t numbers_len);
+                   size_t known_len, const uint32_t *barred, size_t barred_len, uint8_t duplicate, uint32_t number, uint32_t time,
+                   uint8_t *out, size_t out_len, uint64_t *numbers, size_t numbers_len);
 
 /* A STATUS message is read: refusals 99, 10, 9. The k-th reference's code goes to byte k of the table, which may have any length of at
    least the references. numbers: duplicate code (a byte), date, number, time, code, accepted count, accepted sum, refused count,

@@ -7,8 +7,9 @@ a seed. Values and places are from documents 01 and 02, docs/CODES.md and, for a
 session's bytes, docs/SESSION.md. Each case changes a base text a little: a good
 message of 1 to 5 items, a good head or item, or a right STATUS; first of ATUTAL, then
 of BESZED. Those of cover answers change a list of requests and a FEDJEL, of 1 to 6 items
-and some of thousands. The file `written` beside this one follows, cases written by hand;
-there the base text is a message of one item in
+and some of thousands. Those of barred banks have a barred list; elsewhere it is empty, but
+for pieces that are refused. The file `written` beside this one follows, cases written by
+hand; there the base text is a message of one item in
 
     h   the line s of its head, and the line j of the message, both with these changes;
         the head alone comes with the number of the kind that the base isn't
@@ -35,7 +36,7 @@ KINDS = ATUTAL, BESZED = b"ATUTAL", b"BESZED"  # 02 #101; in the order of their 
 E = 20200310
 BANKS = (1203457, 12345676, 16000009, 16000010, 44102036, 61000009, 99001203)
 KNOWN = (b"A12345676T001202003010002", b"5990000000009202003010007")
-GIVEN = E, BANKS, b"".join(KNOWN)
+GIVEN = E, BANKS, b"".join(KNOWN), ()
 PARTICULARS = b"0 0000000007 0000083000 001000"
 
 
@@ -746,14 +747,14 @@ def numbers_out_of_range(real):
     """docs/SESSION.md: place, width and value of each number one beyond its range, or so large that a sum with it wraps."""
     numbers = [int.from_bytes(real[place : place + 8], "little") for place in range(12, 68, 8)]
     room, accepted, _, refused, _, _, fill = numbers
-    record = session.record_size(real[1], real[93 : 93 + fill]) if real[1] < 2 else 1
+    record = session.record_size(real[1], real[session.HELD : session.HELD + fill]) if real[1] < 2 else 1
     return [
         *((0, 1, mark) for mark in (0, 2, 255)),
         *((1, 1, phase) for phase in (5, 6, 255)),
         *((2, 1, letter) for letter in (2, 255)),
         *((3, 1, code) for code in (100, 255)),
         *((4, 4, day) for day in (0, 20200230)),
-        *((8, 4, told) for told in (2, 2**31)),
+        *((8, 4, told) for told in (2, 2**31)),  # the kind, and after the bar a byte that isn't 0
         *((12, 8, length) for length in (10001, 2**64 - 1)),
         *((20, 8, count) for count in (room - refused + 1, 2**64 - refused)),
         *((28, 8, total) for total in (9999999999 * accepted + 1, 2**64 - 1)),
@@ -761,6 +762,7 @@ def numbers_out_of_range(real):
         *((44, 8, total) for total in (9999999999 * refused + 1, 2**64 - 1)),
         *((52, 8, count) for count in (accepted + 1, 2**64 - 1)),
         *((60, 8, count) for count in (record, 2**64 - 1)),
+        *((session.BAR, 1, bar) for bar in ((1, 2, 255) if real[8] else (2, 255))),
     ]
 
 
@@ -784,7 +786,7 @@ def calls_on_damaged_sessions(kind, *sessions):
             taken(room, cut, 9999, changes)
             closed()
             put(place, wrong, right)
-        put(343, b"\0", b"\x07")  # held beyond the fill: it doesn't matter
+        put(session.SIZE - 1, b"\0", b"\x07")  # held beyond the fill: it doesn't matter
         taken(room, cut, 9999, changes)
         closed()
 
@@ -794,8 +796,8 @@ def told_bytes(number):
 
 
 def calls_with_kinds_put_in():
-    """docs/SESSION.md: bytes 8-11 are the kind, 0 or 1. Items go by it and the closing gives it; before the head any of the two
-    gives way to what the head tells."""
+    """docs/SESSION.md: byte 8 is the kind, 0 or 1. Items go by it and the closing gives it; before the head any of the two gives way to
+    what the head tells. What follows it, without a bar, is zeros."""
     late = [change(starts(2)[2], (9, b"20200309"))]  # the second item is refused in a BESZED
     for kind in KINDS:
         base(records(2, kind))
@@ -805,7 +807,7 @@ def calls_with_kinds_put_in():
             opened(2)
             taken(2, 0, cut, late)
             put(8, told_bytes(own), told_bytes(1 - own))
-            for number in (2, 3, 256, 257, 2**16, 2**24, 2**32 - 1):
+            for number in (2, 3, 512, 257, 2**16, 2**24, 2**32 - 1):
                 put(8, told_bytes(1 - own), told_bytes(number))
                 taken(2, cut, 9999, late)
                 closed()
@@ -1444,18 +1446,436 @@ def covers():
     covers_large()
 
 
+# Barred banks (02 #105). The head of the base texts has bank 16000009, whose code is 160.
+
+# Under code 160: listed; good by annex 6 and not listed; listed and bad by annex 6; neither.
+BARRED_BANKS = (b"16000009", b"16000016", b"16000010", b"16099998")
+# Not eight digits: another byte at each place, and bytes that would make the right number if they were digits.
+NO_BANKS = [b"16000009"[:k] + byte + b"16000009"[k + 1 :] for k in range(8) for byte in (b" ", b"A", b":")]
+NO_BANKS += [b"15:00009", b"160" + b" " * 5, b"160\r\n009", b"160\x0000\xb69", b" " * 8, b"000    0", b"1600000/"]
+# Other codes, listed and not.
+OTHER_BANKS = (b"61000009", b"01203457", b"01600006", b"60000006", b"15900008", b"16100002")
+GOOD_BARRED = (
+    *((160,), (0, 160), (160, 999), (0, 160, 999), (159, 160, 161), (157, 158, 159, 160), (160, 161, 162, 163)),
+    *((), (0,), (999,), (159,), (161,), (16,), (600,), (159, 161), (0, 999), (0, 16, 600, 999)),
+)
+BAD_BARRED = (
+    *((1000,), (160, 160), (161, 160), (160, 1000), (999, 1000), (0, 0), (1, 0), (0, 999, 160), (159, 160, 160, 161)),
+    *((160, 161, 162, 161), (4294967295,), (160, 4294967295), (16000009,), (0, 160, 1000, 999)),
+)
+CODES = tuple(range(1000))
+
+
+def barred(*codes):
+    """An A line."""
+    line(b"A", b"".join(b"%010d" % code for code in codes))
+
+
+def bank_of(code):
+    """A bank of this code, zeros for its branch, good by annex 6."""
+    first, second, third = b"%03d" % code
+    return b"%03d0000%d" % (code, -(9 * (first - 48) + 7 * (second - 48) + 3 * (third - 48)) % 10)
+
+
+def banks_listed(codes):
+    """A B line: banks of these codes, and that of the base's items."""
+    line(b"B", b"".join(b"%010d" % bank for bank in sorted({61000009, *(int(bank_of(code)) for code in codes)})))
+
+
+def head_bank(value):
+    return change(0, (35, value))
+
+
+def bars_by_list():
+    begin(5, ATUTAL, "head bank 160; lists with its code: 00 and 14 for each item, none accepted, zero watch 0; then lists without it")
+    for codes in GOOD_BARRED:
+        barred(*codes)
+        message_case(5, [])
+        message_case(5, [field_change(5)])
+    comment("the same messages: lists that are refused, 15: a number over 999, a twin, a descent")
+    for codes in BAD_BARRED:
+        barred(*codes)
+        message_case(5, [])
+    barred()
+
+
+def bars_by_bank():
+    """Listed, 00; not listed or a bad check digit, 01; 14 for each item in both. Not eight digits: 01, and the items' own codes."""
+    begin(2, ATUTAL, "barred 0, 15, 16 and 160; head banks barred and listed, barred and not, not eight digits, of other codes")
+    barred(0, 15, 16, 160)
+    second = change(starts(2)[2], (27, b"9"))
+    for value in (*BARRED_BANKS, *NO_BANKS, *OTHER_BANKS, b"00000000", b"00000001", b"01500003"):
+        message_case(2, [head_bank(value), second], 2)
+    for value in (*BARRED_BANKS, *OTHER_BANKS):
+        message_case(2, [head_bank(value)])
+    comment("the same with a bank list of none, of one, of the head's bank alone")
+    for banks in (b"", b"0061000009", b"0016000009"):
+        line(b"B", banks)
+        for value in BARRED_BANKS[:2]:
+            message_case(2, [head_bank(value)])
+    given()
+    barred()
+
+
+def bars_by_code():
+    """A number stands for three digits: 5 for 005."""
+    codes = (0, 5, 50, 55, 500, 505, 550, 999)
+    begin(1, ATUTAL, "barred 5, then 0, 50, 500, 999 alone: banks of the codes 000, 005, 050, 055, 500, 505, 550, 999, each listed")
+    banks_listed(codes)
+    for code in (5, 0, 50, 500, 999):
+        barred(code)
+        for other in codes:
+            message_case(1, [head_bank(bank_of(other))], 1)
+    comment("the same banks: 999 passes, 1000 is refused with 15")
+    for codes in ((999,), (1000,), (998, 999), (999, 1000)):
+        barred(*codes)
+        message_case(1, [head_bank(bank_of(999))], 1)
+    given()
+    barred()
+
+
+def bars_by_halves():
+    """Each entry of lists of many lengths, and codes beside them; then all codes, and all but the bank's."""
+    base(records(1))
+    for count in (1, 2, 3, 8, 9, 17):
+        codes = [7 + 57 * k for k in range(count)]
+        comment("one item, barred lists of %d: each entry, and the code after it" % count)
+        banks_listed([*codes, *(code + 1 for code in codes)])
+        barred(*codes)
+        for code in codes:
+            message_case(1, [head_bank(bank_of(code))], 1)
+            message_case(1, [head_bank(bank_of(code + 1))], 1)
+    some = (0, 1, 61, 62, 124, 125, 249, 250, 375, 499, 500, 501, 624, 750, 875, 936, 998, 999)
+    comment("one item, all codes barred")
+    banks_listed((*some, 159, 160, 161))
+    barred(*CODES)
+    for code in some:
+        message_case(1, [head_bank(bank_of(code))], 1)
+    comment("one item, all codes but 160 barred")
+    barred(*CODES[:160], *CODES[161:])
+    for code in (159, 160, 161, 0, 500, 999):
+        message_case(1, [head_bank(bank_of(code))], 1)
+    given()
+    barred()
+
+
+# Items of which each but the first has another T fault, in the order of 002 1.3.1: 0 39 32 16 37 61 63 62; an account of zeros in all but one.
+T_VALUES = ((1, b"02"), (3, b"00000 "), (3, b"000004"), (17, b"0" * 10), (27, b"00000000"), (35, b"12345677        "), (51, b" " * 24), (145, b"0" * 35))
+
+
+def bars_over_items():
+    items = [with_value(item(k, 1000, b"0" * 16), value) for k, value in enumerate(T_VALUES, 1)]
+    text = [head(), *items, b"03000008%016d" % 7000]
+    comment("eight items: 0 39 32 16 37 61 63 62, an account of zeros in seven; barred: 00, 14 for each, none accepted, zero watch 0")
+    base(text)
+    for codes in ((160,), (161,)):
+        barred(*codes)
+        line(b"a", b"00008")
+        for length in (8, 9, 7, 3, 0):
+            message_case(8, [], length)
+        message_case(8, [head_bank(b"16000016")], 8)
+    comment("the same: replies of 624 bytes in just so many, and one byte short; read with a table one byte short")
+    barred(160)
+    for room in (624, 623):
+        line(b"P", b"@ 0000009999 0000235959 %06d" % room)
+        for length in (8, 7):
+            line(b"w", b"%05d" % length)
+    line(b"P", PARTICULARS)
+    comment("the same: in each item a fault of the message, type 46 and amount 34, or a bad letter, 36; 14 stays for each")
+    for k in range(1, 9):
+        start = 176 + 251 * (k - 1)
+        for value in ((1, b"01"), (17, b"000000100 "), (249, b"\x80")):
+            message_case(8, [change(start, value)], 8)
+    barred()
+
+
+def bars_over_faults():
+    """Ü faults keep their rank; 14 stays for each complete item before a break."""
+    at = starts(3)
+    begin(3, ATUTAL, "barred 123 and 160; each fault that has a code, alone and beside 01")
+    barred(123, 160)
+    for record, value in RANKED:
+        message_case(3, [change(at[record], value)], 3)
+        if value[0] != 35 or record:
+            message_case(3, [change(at[record], value), head_bank(chance.of(BARRED_BANKS[1:]))], 3)
+    begin(2, ATUTAL, "barred 160; breaks at every kind of place, alone or beside another fault")
+    for found in break_changes(2)[:4] + break_changes(2)[5:]:
+        other = chance.of(([], [], [field_change(2)], [head_bank(BARRED_BANKS[1])]))
+        message_case(2, [found, *other], chance.of((2, 2, 3, 1)))
+    barred()
+
+
+def bars_of_beszed():
+    """BESZED knows no bar, but a bad list is 15 there too."""
+    at = starts(3)
+    begin(3, BESZED, "barred 160: as without it")
+    for codes in ((160,), ()):
+        barred(*codes)
+        line(b"a", b"00003")
+        for record, value in [(0, (1, b"01")), *RANKED, *BESZED_RANKED]:
+            if codes or value[0] in (1, 9, 35):
+                message_case(3, [change(at[record], value)], 3)
+        for value in BARRED_BANKS:
+            message_case(3, [head_bank(value)], 3)
+    comment("three items: positions 3-8 of the head decide, barred 160")
+    barred(160)
+    for value in (b"BESZED", b"BESZEd", b"ATUTAL", b"STATUS", b"bESZED", b" ESZED"):
+        message_case(3, [change(0, (3, value))], 3)
+        message_case(3, [change(0, (3, value)), change(at[2], (9, b"20200309"))], 3)
+    comment("BESZED messages of 3 items: lists that are refused, 15")
+    for codes in BAD_BARRED[:8]:
+        barred(*codes)
+        message_case(3, [])
+    barred()
+
+
+def bars_refused():
+    """Every set of 1, 2, 3, 15, with 4, with 6, and with none; then in a reply every set of 15, 7, 8, 9."""
+    for kind in KINDS:
+        begin(2, kind, "1, 4, 2, 3, 15, 6 whole, 1, 4 and 2, 3, 15 by pieces, 1, 2, 3, 15 in a reply: every set of them")
+        for chosen in range(2**4) if kind == ATUTAL else (8, 9, 10, 12, 0):
+            given(20200230 if chosen & 1 else E, BAD_BANKS[0] if chosen & 2 else BANKS, BAD_KNOWN[0] if chosen & 4 else KNOWN)
+            barred(*(chance.of(BAD_BARRED) if chosen & 8 else (160,)))
+            for length in (2, 1, 10001):
+                message_case(2, [], length)
+            message_case(2, [(chance.of((0, 20, 100)), 9999, b"")], 2)
+    given()
+    begin(2, ATUTAL, "replies: every set of 15, 7, 8, 9; barred 160 where the list is right")
+    for chosen in range(2**4):
+        barred(*(chance.of(BAD_BARRED) if chosen & 1 else (160,)))
+        line(b"P", (b"1" if chosen & 4 else b"0") + b" 0000000007 0000083000 %06d" % (103 if chosen & 8 else 234))
+        line(b"w", b"00002" + written([change(0, (10, b"\x7f"))] if chosen & 2 else []))
+    line(b"P", PARTICULARS)
+    comment("numbers and id of wrong sizes: 15 by pieces comes before the closing's 99, else 99 first")
+    for digits in WRONG_SIZES:
+        sized(digits)
+        for codes in ((160,), (160, 160)):
+            barred(*codes)
+            message_case(2, [], 2)
+    sized()
+    barred()
+
+
+def bars_overflowing():
+    for n in (1, 3):
+        begin(n, ATUTAL, "barred 160; tables of every length around that: 6, with 14 in the bytes there are")
+        barred(160)
+        for length in (*range(n + 2), 10000, 10001):
+            message_case(n, [], length)
+            message_case(n, [head_bank(BARRED_BANKS[1])], length)
+            message_case(n, [field_change(n), chance.of(break_changes(n))], length)
+    barred()
+
+
+def bars_cut():
+    """Cut at each place, and by single bytes in and around the head's bank and its ending."""
+    for n in (1, 2):
+        begin(n, ATUTAL, "barred 160; cut at each place of the message, by single bytes at the head's bank and at its ending")
+        barred(160)
+        for value in (BARRED_BANKS[0], BARRED_BANKS[1], b"1600000 ", OTHER_BANKS[0]):
+            line(b"a", b"%05d" % n + written([head_bank(value)]))
+            for places in (range(33, 44), range(172, 179)):
+                line(b"j", b"%05d " % n + lengths(list(places)) + written([head_bank(value)]))
+        line(b"j", b"%05d 0001" % n)
+        line(b"a", b"%05d" % (n - 1))
+        for changes in ([change(174, (1, b"\n\r"))], [(starts(n)[1] + 249, 2, b"")], [change(0, (105, b"\x80"))], [(176, 9999, b"")], [(450, 9999, b"")]):
+            line(b"a", b"%05d" % n + written(changes))
+    barred()
+
+
+ON, OFF = (160,), (159, 161)  # barred lists with the code of the head's bank and without it
+
+
+def bars_by_pieces():
+    """A session learns the bar with the last byte of the head's ending, from the list of that piece."""
+    begin(2, ATUTAL, "one list up to a byte and another after it, with 160 and without, then the other way round")
+    for cut in (0, 34, 37, 38, 42, 173, 174, 175, 176, 177, 300, 427, 678):
+        for before, after in ((ON, OFF), (OFF, ON)):
+            opened(2)
+            for codes, first, last in ((before, 0, cut), (after, cut, 9999)):
+                barred(*codes)
+                taken(2, first, last)
+            closed()
+    comment("the same: a list for the bytes before the head's last, one for it and one after it, each with 160 and without")
+    for chosen in range(2**3):
+        opened(2)
+        for k, (first, last) in enumerate(((0, 175), (175, 176), (176, 9999))):
+            barred(*(ON if chosen >> k & 1 else OFF))
+            taken(2, first, last)
+        closed()
+    comment("the same: empty pieces with another list before the head's last byte and after it; a wrong ending of the head")
+    for first, second in ((ON, OFF), (OFF, ON)):
+        opened(2)
+        for codes, start, end in ((first, 0, 175), (second, 175, 175), (first, 175, 176), (second, 176, 176), (second, 176, 9999)):
+            barred(*codes)
+            taken(2, start, end)
+        closed()
+        opened(2)
+        barred(*first)
+        taken(2, 0, 200, [change(174, (1, b"\n\r"))])
+        barred(*second)
+        taken(2, 200, 9999)
+        closed()
+    bars_by_refused_pieces()
+    barred()
+
+
+def bars_by_refused_pieces():
+    for kind in KINDS:
+        begin(2, kind, "pieces refused with 15 before the head, at its last byte, after it and in the second item")
+        for codes in BAD_BARRED[: 6 if kind == ATUTAL else 3]:
+            opened(2)
+            for wrong, right, first, last in ((codes, OFF, 0, 175), (codes, ON, 175, 176), (codes, OFF, 176, 450), (codes, (), 450, 9999)):
+                barred(*wrong)
+                taken(2, first, last)
+                barred(*right)
+                taken(2, first, last)
+            barred(*codes)
+            taken(2, 0, 9999)
+            closed()
+        comment("the same: pieces with every mistake at once, then one less each time: 5, 2, 3, 15, 4; barred 160 at last")
+        for changes in ([], [head_bank(BARRED_BANKS[1])], [(300, 9999, b"")]):
+            words = (b"00002" + written(changes), b"%08d" % E, b"".join(b"%010d" % bank for bank in BANKS), b"".join(KNOWN))
+            unmoved(*words, b"0000000160")
+
+
+# What a head told as bytes of a session, kind, bar and two zeros: in range, and not.
+TOLD = ((0, 0, 0, 0), (0, 1, 0, 0), (1, 0, 0, 0))
+NOT_TOLD = ((1, 1), (0, 2), (1, 2), (0, 255), (2, 0), (2, 1), (255, 0), (0, 0, 1), (0, 1, 1), (1, 0, 255), (0, 1, 0, 1), (0, 0, 0, 128))
+
+
+def put_told(old, new):
+    """What the head told in a session, where it is to be other bytes; zeros follow those that are named."""
+    put(session.KIND, bytes(old).ljust(4, b"\0"), bytes(new).ljust(4, b"\0"))
+
+
+def bars_put_in():
+    """docs/SESSION.md: byte 8 is the kind, byte 9 the bar, 0 or 1, and 1 beside kind 0 alone. Items go by what stands there; before the head
+    any gives way to what the head tells."""
+    for kind, codes in ((ATUTAL, OFF), (ATUTAL, ON), (BESZED, ON)):
+        text = records(2, kind)
+        base([*text[:2], with_value(text[2], (9, b"20200309")), text[3]])  # the second item is refused in a BESZED
+        barred(*codes)
+        for cut in (100, 176, 300):
+            list_name = "with" if codes == ON else "without"
+            comment("two items of %s, a list %s 160, %d bytes read: kinds and bars put in; out of range: 5" % (kind.decode(), list_name, cut))
+            own = (KINDS.index(kind), int(kind == ATUTAL and codes == ON), 0, 0) if cut >= 176 else TOLD[0]
+            for told in TOLD:
+                opened(2)
+                taken(2, 0, cut)
+                put_told(own, told)
+                for wrong in NOT_TOLD if told == own else ():
+                    put_told(told, wrong)
+                    taken(2, cut, 9999)
+                    closed()
+                    put_told(wrong, told)
+                taken(2, cut, cut)
+                taken(2, cut, 9999)
+                closed()
+    bars_put_in_at_ends()
+    barred()
+
+
+def bars_put_in_at_ends():
+    comment("two items, a bar put in: closed in the head, after a break of it, after it, in an overflow; a table of none or two")
+    base(records(2))
+    barred()
+    for room, cut, changes in ((2, 0, []), (2, 100, []), (2, 200, [change(174, (1, b"\n\r"))]), (2, 176, []), (0, 678, []), (2, 427, [(425, 2, b"  ")])):
+        for told in TOLD[1:]:
+            opened(room)
+            taken(room, 0, cut, changes)
+            put_told(TOLD[0], told)
+            taken(room, cut, cut, changes)
+            closed()
+
+
+def bars_elsewhere():
+    """Single records, reading, and the slip know no bar and aren't lent the list."""
+    comment("a single head and item, a STATUS, a slip: with barred 160, without a list, and with one that is refused elsewhere, the same")
+    lists = ON, (), (160, 160)
+    for record, value in zip(records(1), ((35, b"16000016"), (27, b"16000009"))):
+        base([record], endings=False)
+        for codes in lists:
+            barred(*codes)
+            single_case(1, [])
+            single_case(1, [change(0, value)])
+    base(reply([]))
+    for codes in lists:
+        barred(*codes)
+        status_case(3, [])
+    line(b"M", b"")
+    line(b"-", b"%08d" % E)
+    for bank in (b"16000009", b"61000009"):
+        line(b"/", bank)
+    for part in records(1):
+        line(b"+", part)
+    for codes in lists:
+        barred(*codes)
+        line(b"f", b"00008 00018 00000")
+    barred()
+
+
+def bars_large():
+    comment("10,000 items, barred 160, in a full table: 00 and 14 for each; the reply in just so many bytes; one item more: 6, and 15 before it")
+    for n in (10000, 10001):
+        line(b"M", b"")
+        line(b"+", head())
+        line(b"*", b"%06d26+" % n + item(1, 9999999999, b"0" * 16))
+        line(b"+", b"03%06d%016d" % (n, 9999999999 * n))
+        line(b"P", b"0 0000000007 0000083000 650104")
+        barred(160)
+        line(b"j", b"10000 1000")
+        if n > 10000:
+            barred(160, 160)
+            line(b"w", b"10000")
+    line(b"P", PARTICULARS)
+    barred()
+
+
+def bars_at_chance(count):
+    lists = ((160,), (0, 160, 999), (12, 123, 160, 441, 610, 990), (160, 610), (12, 441), (160, 160))
+    for n in (1, 2, 3):
+        begin(n, ATUTAL, "barred lists, head banks, values of fields and damage by chance")
+        for k in range(count):
+            if k % 4 == 0:
+                barred(*chance.of(lists))
+            bank = [head_bank(chance.of((*BARRED_BANKS, *OTHER_BANKS, *(b"%08d" % bank for bank in BANKS))))] * chance.under(2)
+            other = chance.of(([field_change(n)], [field_change(n), field_change(n)], [damage(starts(n)[-1])]))
+            message_case(n, [*bank, *other], chance.of((n, n, n, n + 1, n - 1)))
+    barred()
+
+
+def bars():
+    bars_by_list()
+    bars_by_bank()
+    bars_by_code()
+    bars_by_halves()
+    bars_over_items()
+    bars_over_faults()
+    bars_of_beszed()
+    bars_refused()
+    bars_overflowing()
+    bars_cut()
+    bars_by_pieces()
+    bars_put_in()
+    bars_elsewhere()
+    bars_large()
+    bars_at_chance(24)
+
+
 # The cases written by hand
 
 
-def unmoved(rest, day, banks, known):
-    """Pieces with every mistake at once, then one less each time: 5, 2, 3, 4; then the piece is taken as ever."""
+def unmoved(rest, day, banks, known, barred):
+    """Pieces with every mistake at once, then one less each time: 5, 2, 3, 15, 4; then the piece is taken as ever."""
     own, sign, changes = rest.partition(b"|")
     wrong, right = (b"%05d 0000 9999" % length + sign + changes for length in (int(own) - 1, int(own)))
     for letter, words in (
-        *((b"E", b"00000000"), (b"o", own), (b"B", b"00000000020000000001"), (b"K", bytes(24)), (b"t", wrong)),
+        *((b"E", b"00000000"), (b"o", own), (b"B", b"00000000020000000001"), (b"K", bytes(24)), (b"A", b"0000001000"), (b"t", wrong)),
         *((b"E", day), (b"o", own), (b"t", wrong)),
         *((b"B", banks), (b"t", wrong)),
         *((b"K", known), (b"t", wrong)),
+        *((b"A", barred), (b"t", wrong)),
         *((b"t", right), (b"c", b"")),
     ):
         line(letter, words)
@@ -1470,12 +1890,12 @@ def alone_and_inside(number, start, end, rest):
 
 
 def hand_written():
-    held, base_text = {}, b""
+    held, base_text = {b"A": b""}, b""
     for text in pathlib.Path(__file__).with_name("written").read_bytes().split(b"\n")[:-1]:
         letter, rest = text[:1], text[2:]
         held[letter] = rest
         if letter == b"u":
-            unmoved(rest, held[b"E"], held[b"B"], held[b"K"])
+            unmoved(rest, held[b"E"], held[b"B"], held[b"K"], held[b"A"])
         elif letter == b"h":
             alone_and_inside(int(base_text[2:8] != BESZED), 0, 174, rest)
         elif letter == b"i":
@@ -1524,6 +1944,8 @@ def main():
         halves(kind)
     comment("Cover answers: FEDJEL and FEDSTA")
     covers()
+    comment("Barred banks")
+    bars()
     hand_written()
 
 

@@ -191,6 +191,11 @@ def bank_list(code, banks):
     return [right, code in banks if ascending else b"-"]
 
 
+def barred_list(barred):
+    """02 #105 and refusal 15: strictly ascending, and no number over three digits."""
+    return all(a < b for a, b in zip(barred, barred[1:])) and all(code <= 999 for code in barred)
+
+
 def known_list(identifier, known):
     """01 "The job" and refusal 3: identifiers of 25 bytes, end to end.
 
@@ -230,6 +235,8 @@ def answers(command, rest):
     if command == b"b":
         numbers = [int(rest[i : i + 10]) for i in range(0, len(rest), 10)]
         return bank_list(numbers[0], numbers[1:])
+    if command == b"A":
+        return [barred_list([int(rest[i : i + 10]) for i in range(0, len(rest), 10)])]
     if command == b"k":
         return known_list(rest[:25], rest[25:])
     if command == b"p":

@@ -2,8 +2,8 @@
 
 Written from documents 01 and 02 and the standard 002 alone, not from the code that
 is held to it. The message is taken whole: nothing here knows of pieces. E is a
-number, the bank list is a list of numbers; the message, the known list and the
-code table are bytes. The rules of the fields are in rules.py.
+number, the bank list and the barred list are lists of numbers; the message, the
+known list and the code table are bytes. The rules of the fields are in rules.py.
 """
 
 from functools import lru_cache
@@ -101,9 +101,9 @@ def table_after(table, codes):
     return written + table[len(written) :]
 
 
-def refusal(day, banks, known, table):
-    """01, refusals: opening 1, 4; then the piece 2, 3. 0 if there is none."""
-    first = rules.refusal(day, banks, known)
+def refusal(day, banks, known, barred, table):
+    """01 and 02 #105, refusals: opening 1, 4; then the piece 2, 3, 15. 0 if there is none."""
+    first = rules.refusal(day, banks, known, barred)
     if first != 1 and len(table) > LONGEST_TABLE:
         return 4
     return first
@@ -112,30 +112,30 @@ def refusal(day, banks, known, table):
 # The whole
 
 
-def judge(message, day, banks, known, table, told=None):
+def judge(message, day, banks, known, barred, table, told=None):
     """(refusal or 0, code, five numbers, kind, identifier, the table afterwards).
 
     01 "Calls and their answers"; 02 #101 for the kind, which comes with every code.
     A refusal gives its number alone: the code and the numbers beside it are 0, the
-    kind is ATUTAL and the identifier is spaces. Refusals 1 to 4 leave the table as
-    it was; an overflow, 6, leaves in it the codes that had a byte. Where a kind is
-    told, items are judged by it and not by what the head tells: a host may have put
-    it into a session.
+    kind is ATUTAL and the identifier is spaces. Refusals 1 to 4 and 15 leave the table
+    as it was; an overflow, 6, leaves in it the codes that had a byte. Where a kind and a
+    bar are told, items are judged by them and not by what the head tells: a session
+    keeps them from its head, or a host has put them into it.
     """
     zeros = (0, 0, 0, 0, 0)
-    refused = refusal(day, banks, known, table)
+    refused = refusal(day, banks, known, barred, table)
     if refused:
         return refused, 0, zeros, rules.ATUTAL, NO_IDENTIFIER, table
     head, items, foot = cut(message)
-    kind = rules.message_kind(head) if told is None else told
-    judged = [judge_item(item, k, day, tuple(banks), kind) for k, item in enumerate(items, 1)]
+    told = rules.told_by(head, barred) if told is None else told
+    judged = [judge_item(item, k, day, tuple(banks), told) for k, item in enumerate(items, 1)]
     after = table_after(table, [item[2] for item in judged])
     # 01, refusal 6: more complete items before any break than the table.
     if len(items) > len(table):
         return 6, 0, zeros, rules.ATUTAL, NO_IDENTIFIER, after
     # 01 "Faults of the whole message" 1: a break ranks first.
     if foot is None:
-        return 0, BREAK, zeros, kind, identifier(head), after
+        return 0, BREAK, zeros, told.kind, identifier(head), after
     total = sum(item[3] for item in judged)
     code = verdict(
         rules.judge_head(head, day, banks, known),
@@ -143,4 +143,4 @@ def judge(message, day, banks, known, table, told=None):
         rules.judge_foot(foot, len(items), total),
     )
     # 01, closing: with a code other than 00 the five numbers are 0.
-    return 0, code, zeros if code else numbers(judged), kind, identifier(head), after
+    return 0, code, zeros if code else numbers(judged), told.kind, identifier(head), after

@@ -2,12 +2,13 @@
 
 Written from documents 01 and 02 and the standard 002 alone, not from the code that
 is held to it. What they leave open is decided as in docs/CODES.md. Records are bytes
-without their ending; E, k, count and total are numbers, the bank list is a list
-of numbers, the known list is bytes. A rule answers with the kind of fault it
-finds in its field, or with None.
+without their ending; E, k, count and total are numbers, the bank list and the
+barred list are lists of numbers, the known list is bytes. A rule answers with the
+kind of fault it finds in its field, or with None.
 """
 
 import datetime
+from collections import namedtuple
 from functools import lru_cache, partial
 
 import leaves
@@ -20,6 +21,10 @@ BREAK = 26
 
 # 02 #101: the kinds of a message, by their numbers in include/nshanvekh.h.
 ATUTAL, BESZED = 0, 1
+
+# What the head tells of its items: the message's kind (02 #101), and whether the head's bank is barred (02 #105).
+Told = namedtuple("Told", "kind barred")
+BARRED = 14  # 02 #105; 002 1.3.1 note 4: every item's code under a barred head bank
 
 # 01 "Calls and their answers": the kinds, in its order. Those of an account (02 #102) are named in leaves.py.
 LETTER = b"letter"
@@ -78,6 +83,17 @@ def at(record, first, last):
 def message_kind(head):
     """02 #101: BESZED in head positions 3-8 makes a BESZED, all else is ATUTAL; so is a message without a complete head."""
     return BESZED if head is not None and at(head, 3, 8) == b"BESZED" else ATUTAL
+
+
+def is_barred(field, barred):
+    """02 #105: eight digits, of which the first three are on the list. Check digit and bank list don't matter for it."""
+    return all_digits(field) and number(field[:3]) in barred
+
+
+def told_by(head, barred):
+    """02 #101 and #105: what a complete head tells; without one the message is an ATUTAL and nothing is barred. BESZED knows no bar."""
+    kind = message_kind(head)
+    return Told(kind, head is not None and kind == ATUTAL and is_barred(at(head, 35, 42), barred))
 
 
 # Rules that several fields share
@@ -298,12 +314,12 @@ def beszed_item(f, k, day, banks):
     return (*type_and_number(f, k), (b"due-date", due_date(f(9, 16), day)), *amount_to_owner(f, banks))
 
 
-def item_fields(record, k, day, banks, told):
+def item_fields(record, k, day, banks, kind):
     """The rules of an item in a message of the kind that its head told.
 
     Each row: the field, the kind of fault found in it or None.
     """
-    table = {ATUTAL: atutal_item, BESZED: beszed_item}[told]
+    table = {ATUTAL: atutal_item, BESZED: beszed_item}[kind]
     return table(partial(at, record), k, day, banks)
 
 
@@ -347,14 +363,15 @@ def judge_item(record, k, day, banks, told):
     """(bad letter 0 or 1, first Ü code, first T code, amount, zero account 0 or 1).
 
     A code is 0 where there is none. 01 "Faults of the whole message" 2 and 4,
-    "Item rules", and the zero watch of "Calls and their answers". Another
-    length as in judge_head.
+    "Item rules", and the zero watch of "Calls and their answers". Where the head
+    told of a barred bank, 14 stands in place of every T code and of 0 (02 #105).
+    Another length as in judge_head.
     """
     if len(record) != ITEM:
         return 0, BREAK, 0, 0, 0
     letter = int(bad_letters(record, ITEM_TEXT) != [])
-    fields = item_fields(record, k, day, banks, told)
-    fault, code = first_code(fields, MESSAGE_CODES), first_code(fields, ITEM_CODES)
+    fields = item_fields(record, k, day, banks, told.kind)
+    fault, code = first_code(fields, MESSAGE_CODES), BARRED if told.barred else first_code(fields, ITEM_CODES)
     zero = int(leaves.account_zero(at(record, 35, 50)))
     return letter, fault, code, item_amount(record), zero
 
@@ -378,13 +395,15 @@ def judge_foot(record, count, total):
 # A single record, judged alone
 
 
-def refusal(day, banks, known):
-    """01, refusals 1, 2 and 3, in this order; 0 if there is none."""
+def refusal(day, banks, known, barred):
+    """01, refusals 1, 2 and 3, and 02 #105, 15, in this order; 0 if there is none."""
     if clearing_day(day) is None:
         return 1
     if not leaves.bank_list(0, banks)[0]:
         return 2
-    return 0 if leaves.known_list(b"", known)[0] else 3
+    if not leaves.known_list(b"", known)[0]:
+        return 3
+    return 0 if leaves.barred_list(barred) else 15
 
 
 def single(record, k, day, banks, known, kind_number):
@@ -392,9 +411,9 @@ def single(record, k, day, banks, known, kind_number):
 
     Length tells head from item. A bad letter comes first, then the fields in order.
     A head tells its own kind; an item comes with its number: 1 BESZED, any other
-    ATUTAL (include/nshanvekh.h, nsh_single).
+    ATUTAL (include/nshanvekh.h, nsh_single). Single records know no bar (02 #105).
     """
-    refused = refusal(day, banks, known)
+    refused = refusal(day, banks, known, ())
     if not refused and len(record) not in (HEAD, ITEM):
         refused = 10
     if refused:

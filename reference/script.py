@@ -7,6 +7,7 @@ bytes:
     E   the clearing day, eight digits
     B   the bank list, ten digits a number, end to end
     K   the known list
+    A   the barred list, ten digits a number, end to end
     M   empties the base text
     -   appends the bytes to it
     /   appends the bytes and 0Ah
@@ -15,7 +16,7 @@ bytes:
         bytes N times as that command does; each time the W bytes after the
         first P are 1, 2 and so on, with leading zeros (W 0: none are)
 
-E, B and K hold until the next one. All but # print nothing.
+E, B, K and A hold until the next one; at first the lists are empty. All but # print nothing.
 """
 
 import sys
@@ -29,8 +30,8 @@ def cut_numbers(rest):
 
 
 def commands():
-    """Every line of standard input but # E B K: its letter, its rest, and the E, bank list and known list that hold."""
-    day, banks, known = 0, (), b""
+    """Every line of standard input but # E B K A: its letter, its rest, and the E, bank list, known list and barred list that hold."""
+    day, banks, known, barred = 0, (), b"", ()
     for line in sys.stdin.buffer:
         line = line.removesuffix(b"\n")
         command, rest = line[:1], line[2:]
@@ -42,8 +43,10 @@ def commands():
             banks = cut_numbers(rest)
         elif command == b"K":
             known = rest
+        elif command == b"A":
+            barred = cut_numbers(rest)
         else:
-            yield command, rest, (day, banks, known)
+            yield command, rest, (day, banks, known, barred)
 
 
 def numbered(rest, first, width, k):

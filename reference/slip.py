@@ -48,7 +48,8 @@ def refused(number):
 
 
 def slip(day_file, banks_file, known, text):
-    """01 "Examples" and 02 #101: what the program prints. The files are judged in their order, before the message."""
+    """01 "Examples" and 02 #101: what the program prints. The files are judged in their order, before the message. The barred list is
+    empty (02 #105)."""
     day, banks = day_in(day_file), banks_in(banks_file)
     if day is None:
         return refused(1)
@@ -57,7 +58,7 @@ def slip(day_file, banks_file, known, text):
     if not is_known(known):
         return refused(3)
     table = bytes(message.LONGEST_TABLE)
-    refusal, code, numbers, kind, _, _ = message.judge(text, day, banks, known, table)
+    refusal, code, numbers, kind, _, _ = message.judge(text, day, banks, known, (), table)
     if refusal:
         return refused(refusal)
     return b"KIND %s\nMESSAGE %02d\nACCEPTED %d %d\nREFUSED %d %d\nZERO %d\n" % (KINDS[kind], code, *numbers)

@@ -1,9 +1,9 @@
 """The STATUS message, by definition: the reply to a message, and a STATUS read.
 
-Written from document 01 and the standard 002, sections 3.1 to 3.3, alone, not
+Written from documents 01 and 02 and the standard 002, sections 3.1 to 3.3, alone, not
 from the code that is held to it. The verdict is that of message.py. E, number,
-time and lengths are numbers, the duplicate code is a byte, the bank list is a
-list of numbers; messages and the known list are bytes.
+time and lengths are numbers, the duplicate code is a byte, the bank list and the
+barred list are lists of numbers; messages and the known list are bytes.
 """
 
 from collections import namedtuple
@@ -49,15 +49,15 @@ def references(text, codes):
     return [b"02%06d%02d" % (k, code) + b" " * 29 + at(item, 51, 74) for k, (item, code) in enumerate(judged, 1)]
 
 
-def reply(text, day, banks, known, duplicate, number, time, room):
+def reply(text, day, banks, known, barred, duplicate, number, time, room):
     """("refused", n), or the reply's bytes.
 
-    01 "Calls and their answers": refusals 1, 2, 3, 6, 7, 8, 9 in this order. The
-    verdict is that of a table of 10,000 bytes, which is never refused itself.
+    01 "Calls and their answers" and 02 #105: refusals 1, 2, 3, 15, 6, 7, 8, 9 in this
+    order. The verdict is that of a table of 10,000 bytes, which is never refused itself.
     With a code other than 00 there are no references, and the numbers are 0.
     """
     table = bytes(message.LONGEST_TABLE)
-    refused, code, numbers, _, _, codes = message.judge(text, day, banks, known, table)
+    refused, code, numbers, _, _, codes = message.judge(text, day, banks, known, barred, table)
     address = at(text, 10, 34)
     if refused:
         return "refused", refused

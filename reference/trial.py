@@ -3,7 +3,7 @@
     python3 reference/trial.py < crates/trial/stdin
 
 Written from documents 01 and 02, docs/CODES.md, docs/SESSION.md and the header alone, not
-from the code that is held to them. The lines # E B K, and those that build the base
+from the code that is held to them. The lines # E B K A, and those that build the base
 text, are those of script.py; like them, P, Z and X set something, and the lines with
 small letters try something:
 
@@ -143,7 +143,7 @@ def judged(text, given, table, sizes, by_pieces):
     elif sizes.numbers or sizes.id:
         if not by_pieces:
             refused, after = SIZE, table
-        elif refused not in (1, 2, 3, 4):
+        elif refused not in (1, 2, 3, 4, 15):
             refused = SIZE
     return b" %d" % refused + lent(refused, (code, *numbers, kind), identifier, sizes) + sums(after)
 
@@ -172,9 +172,10 @@ def read(text, length, sizes):
 
 
 def single(text, own, given):
-    """The number of nsh_single: 0, a refusal's, or 100 x the field's and the kind's. The line has the place and the message's kind."""
+    """The number of nsh_single: 0, a refusal's, or 100 x the field's and the kind's. The line has the place and the message's kind;
+    the barred list isn't lent."""
     place, kind_number = (int(field) for field in own.split())
-    answer = rules.single(text, place, *given, kind_number)
+    answer = rules.single(text, place, *given[:3], kind_number)
     if answer == b"accepted":
         return 0
     field, kind = answer.split()
@@ -216,18 +217,19 @@ class Host:
 
     def __init__(self):
         self.session = bytes(session.SIZE)
-        self.read, self.room, self.given = b"", 0, (0, (), b"")
+        self.read, self.room, self.given = b"", 0, (0, (), b"", ())
 
-    def kind(self):
-        """The message's kind as the session keeps it; X lines may have put another there."""
-        return int.from_bytes(self.session[8:12], "little")
+    def told(self):
+        """What the head told, as the session keeps it; X lines may have put something else there."""
+        return session.told_in(self.session)
 
     def is_open(self):
-        """Bytes that X lines put in leave a session as it was but for the kind, or make it none: only then its answers are known here."""
+        """Bytes that X lines put in leave a session as it was but for what the head told, or make it none: only then its answers are
+        known here. All its pieces have the same bank list and known list; of the barred lists that of the head's piece counts."""
         if not session.is_open(self.session):
             return False
-        real = session.of(self.read, self.room, *self.given, self.kind())
-        counts = 93 + int.from_bytes(real[60:68], "little")  # bytes held beyond the fill don't matter
+        real = session.of(self.read, self.room, *self.given, self.told())
+        counts = session.HELD + int.from_bytes(real[60:68], "little")  # bytes held beyond the fill don't matter
         assert self.session[:counts] == real[:counts]
         return True
 
@@ -235,14 +237,14 @@ class Host:
         """nsh_open: 99, 1, 4."""
         if sizes.session:
             return SIZE
-        self.read, self.room, self.given = b"", length, (day, (), b"")
+        self.read, self.room, self.given = b"", length, (day, (), b"", ())
         refused = 1 if rules.clearing_day(day) is None else 4 if length > message.LONGEST_TABLE else 0
         self.session = session.CLOSED if refused else session.of(b"", length, *self.given)
         return refused
 
     def piece(self, new, given, table, sizes):
-        """nsh_piece: 99, 5, 2, 3, 4; and the table afterwards, with the codes of the items that this piece completes. Items go by
-        the kind that the session keeps; the head, when it comes, tells it."""
+        """nsh_piece: 99, 5, 2, 3, 15, 4; and the table afterwards, with the codes of the items that this piece completes. Items go by
+        what the session keeps; the head tells it, by the barred list of the piece that completes it."""
         if sizes.session:
             return SIZE, table
         if not self.is_open():
@@ -252,8 +254,8 @@ class Host:
         if refused:
             return refused, table
         head, items, _ = message.cut(self.read)
-        told, before = None if head is None else self.kind(), len(items)
-        self.read, self.given = self.read + new, lists
+        self.read, self.given, before = self.read + new, lists, len(items)
+        told = None if head is None and message.cut(self.read)[0] is not None else self.told()
         self.session = session.of(self.read, self.room, *lists, told)
         return 0, table[:before] + message.judge(self.read, *lists, table, told)[-1][before:]
 
@@ -263,7 +265,7 @@ class Host:
             return SIZE, numbers, identifier
         if not self.is_open():
             return 5, numbers, identifier
-        refused, code, totals, kind, own, _ = message.judge(self.read, *self.given, untouched(self.room), self.kind())
+        refused, code, totals, kind, own, _ = message.judge(self.read, *self.given, untouched(self.room), self.told())
         self.session = session.CLOSED
         return (refused, numbers, identifier) if refused else (0, (code, *totals, kind), own)
 

@@ -8,7 +8,7 @@ records without a fault, a watch or a break are left out. Beside crates/view/std
 messages are shown: `faulty`, an ATUTAL, and `debited`, a BESZED. Written from documents 01
 and 02 and docs/CODES.md, not from the code that is held to it. The rules of the fields
 are in rules.py, the cutting and the verdict in message.py; here is what is said
-of them, in words.
+of them, in words. The barred list is empty (02 #105).
 """
 
 import os
@@ -221,7 +221,7 @@ def head_lines(record, day, banks, known, kind):
 
 def item_lines(record, k, day, banks, kind):
     lines = field_lines(record, ITEM_FIELDS, kind) + fault_lines(item_faults(record, k, day, banks, kind))
-    _, _, code, _, zero = rules.judge_item(record, k, day, banks, kind)
+    _, _, code, _, zero = rules.judge_item(record, k, day, banks, rules.Told(kind, False))
     return lines + ["  WATCH account is all zeros"] * (zero == 1 and code == 0)
 
 
@@ -281,7 +281,7 @@ def record_lines(data, day, banks, known, only):
 
 
 def verdict_lines(data, day, banks, known):
-    _, code, numbers, _, _, _ = message.judge(data, day, banks, known, bytes(message.LONGEST_TABLE))
+    _, code, numbers, _, _, _ = message.judge(data, day, banks, known, (), bytes(message.LONGEST_TABLE))
     answer = "refused" if code else "accepted"
     return [
         "VERDICT code %02d: %s, the message is %s" % (code, MEANINGS[code], answer),

@@ -10,7 +10,7 @@ mod plain;
 mod proved;
 
 use messages::{given, good, Given};
-use plain::{Kind, Lists, Particulars, Session};
+use plain::{Kind, Particulars, Session};
 use std::hint::black_box;
 use std::time::{Duration, Instant};
 
@@ -97,10 +97,7 @@ impl Row<'_> {
 
     fn plain<const QUICK: bool>(&self, table: &mut [u8], out: &mut [u8]) -> Duration {
         let (given, message, p) = (self.given, black_box(self.message), &PARTICULARS);
-        let lists = Lists {
-            banks: &given.banks,
-            known: &given.known,
-        };
+        let lists = given.lists();
         match self.task {
             Task::Whole => least(|| {
                 black_box(plain::judge::<QUICK>(given.day, lists, table, message)).unwrap();
@@ -187,6 +184,7 @@ fn print_wanted(whole: &Row, pieces: &[Row], thousand: &Row) {
 
 fn main() {
     let (few, many) = (given(10), given(2700));
+    let (others, own) = (given(10).barring_others(), given(10).barring_own());
     let plain = good(&few, Kind::Atutal, 10_000, 0);
     let accented = good(&few, Kind::Atutal, 10_000, 5);
     let listed = good(&many, Kind::Atutal, 10_000, 0);
@@ -194,11 +192,14 @@ fn main() {
     let debits = good(&few, Kind::Beszed, 10_000, 0);
     let covers = cover::measured();
     agreement::check(&[
-        (&few, Kind::Atutal, &plain),
-        (&few, Kind::Atutal, &accented),
-        (&many, Kind::Atutal, &listed),
-        (&few, Kind::Atutal, &thousand),
-        (&few, Kind::Beszed, &debits),
+        (&few, Kind::Atutal, &plain, 0),
+        (&few, Kind::Atutal, &accented, 0),
+        (&many, Kind::Atutal, &listed, 0),
+        (&few, Kind::Atutal, &thousand, 0),
+        (&others, Kind::Atutal, &plain, 0),
+        (&own, Kind::Atutal, &plain, 14),
+        (&few, Kind::Beszed, &debits, 0),
+        (&own, Kind::Beszed, &debits, 0),
     ]);
     cover::check(&covers);
 
@@ -215,6 +216,9 @@ fn main() {
         row("  pieces of 1,000 bytes", &many, &listed, Task::Pieces(1_000)),
         row("  pieces of 100 bytes", &many, &listed, Task::Pieces(100)),
         row("whole, 1,000 items", &few, &thousand, Task::Whole),
+        row("whole, 999 barred codes", &others, &plain, Task::Whole),
+        row("  pieces of 1,000 bytes", &others, &plain, Task::Pieces(1_000)),
+        row("whole, under a bar", &own, &plain, Task::Whole),
         row("BESZED, whole, 10 banks", &few, &debits, Task::Whole),
         row("  pieces of 64 KiB", &few, &debits, Task::Pieces(65_536)),
         row("  pieces of 1,000 bytes", &few, &debits, Task::Pieces(1_000)),

@@ -1,6 +1,6 @@
 //! Good messages of any number of items, with the lists that they are judged by; and messages with bytes changed.
 
-use crate::plain::Kind;
+use crate::plain::{Kind, Lists};
 use std::collections::BTreeSet;
 
 /// A Tuesday.
@@ -12,10 +12,39 @@ const ITEM: usize = 251;
 const FOOT: usize = 26;
 
 /// The clearing day and the lists.
+#[derive(Clone)]
 pub struct Given {
     pub day: u32,
     pub banks: Vec<u32>,
     pub known: Vec<u8>,
+    pub barred: Vec<u32>,
+}
+
+impl Given {
+    pub fn lists(&self) -> Lists<'_> {
+        Lists {
+            banks: &self.banks,
+            known: &self.known,
+            barred: &self.barred,
+        }
+    }
+
+    /// The three digits of the bank in the heads of its good messages.
+    pub fn own_code(&self) -> u32 {
+        self.banks[0] / 100_000
+    }
+
+    /// The same with that bank barred.
+    pub fn barring_own(self) -> Given {
+        let barred = vec![self.own_code()];
+        Given { barred, ..self }
+    }
+
+    /// The same with all others barred: 999 codes, and none that bars its good messages.
+    pub fn barring_others(self) -> Given {
+        let barred = (0..1_000).filter(|&code| code != self.own_code()).collect();
+        Given { barred, ..self }
+    }
 }
 
 /// Numbers that look random and are the same in each run.
@@ -55,6 +84,7 @@ pub fn checked(dice: &mut Dice, digits: usize) -> String {
     with_check_digit((1..digits).map(|_| char::from(b'0' + dice.below(10) as u8)).collect())
 }
 
+/// So many banks, a hundred identifiers, and no barred bank.
 pub fn given(banks: usize) -> Given {
     let mut dice = Dice::new(banks as u64 + 1);
     let mut codes = BTreeSet::new();
@@ -68,6 +98,7 @@ pub fn given(banks: usize) -> Given {
         day: DAY,
         banks: codes.into_iter().collect(),
         known: known.into_bytes(),
+        barred: Vec::new(),
     }
 }
 
@@ -194,15 +225,50 @@ fn damage_kind(out: &mut [u8], dice: &mut Dice) {
     }
 }
 
-/// Positions 9-16 of an item are a day of the month or none, near the clearing days and the eighth workday after them.
-fn damage_date(out: &mut [u8], dice: &mut Dice) {
+/// One of the items.
+fn any_item<'a>(out: &'a mut [u8], dice: &mut Dice) -> &'a mut [u8] {
     let items = (out.len() - HEAD - FOOT) / ITEM;
-    let at = HEAD + ITEM * dice.below(items as u64) as usize + 8;
-    let date = DAY - 10 + dice.below(34) as u32;
-    out[at..at + 8].copy_from_slice(date.to_string().as_bytes());
+    let at = HEAD + ITEM * dice.below(items as u64) as usize;
+    &mut out[at..at + ITEM]
 }
 
-/// The good message with a few bytes changed, its kind or due dates among them, or with bytes lost or added at its end.
+/// Positions 9-16 of an item are a day of the month or none, near the clearing days and the eighth workday after them.
+fn damage_date(out: &mut [u8], dice: &mut Dice) {
+    let date = DAY - 10 + dice.below(34) as u32;
+    any_item(out, dice)[8..16].copy_from_slice(date.to_string().as_bytes());
+}
+
+/// The account of an item is zeros, or zeros and spaces.
+fn damage_account(out: &mut [u8], dice: &mut Dice) {
+    let zeros: &[u8; 16] = *dice.pick(&[&b"0000000000000000", &b"00000000        "]);
+    any_item(out, dice)[34..50].copy_from_slice(zeros);
+}
+
+/// One byte of the head's bank is a digit, or none.
+fn damage_bank(out: &mut [u8], dice: &mut Dice) {
+    let at = 34 + dice.below(8) as usize;
+    out[at] = match dice.below(3) {
+        0 => *dice.pick(&[&b' ', &b'A', &b'/', &b':']),
+        _ => b'0' + dice.below(10) as u8,
+    };
+}
+
+/// A barred list of a few codes, one time in four the head's own among them; one time in forty with a number behind them that mostly makes
+/// it none.
+pub fn barred(given: &Given, dice: &mut Dice) -> Vec<u32> {
+    let mut codes: BTreeSet<u32> = (0..dice.below(4)).map(|_| dice.below(1_000) as u32).collect();
+    if dice.below(4) == 0 {
+        codes.insert(given.own_code());
+    }
+    let mut list: Vec<u32> = codes.into_iter().collect();
+    if dice.below(40) == 0 {
+        list.push(*dice.pick(&[&0, &999, &1_000, &u32::MAX]));
+    }
+    list
+}
+
+/// The good message with a few bytes changed, its kind, dates, accounts or bank among them, or with bytes lost or added at its end. Some byte
+/// is left: without a piece no list is looked at.
 pub fn damaged(message: &[u8], dice: &mut Dice) -> Vec<u8> {
     let mut out = message.to_vec();
     for _ in 0..dice.below(3) {
@@ -215,7 +281,7 @@ pub fn damaged(message: &[u8], dice: &mut Dice) -> Vec<u8> {
         };
     }
     match dice.below(14) {
-        0 => out.truncate(dice.below(out.len() as u64) as usize),
+        0 => out.truncate(1 + dice.below(out.len() as u64 - 1) as usize),
         1 => out.push(b' '),
         2 => {
             // A field at random is filled with one byte.
@@ -224,6 +290,8 @@ pub fn damaged(message: &[u8], dice: &mut Dice) -> Vec<u8> {
         }
         3 => damage_kind(&mut out, dice),
         4..=5 => damage_date(&mut out, dice),
+        6 => damage_account(&mut out, dice),
+        7 => damage_bank(&mut out, dice),
         _ => {}
     }
     out

@@ -12,6 +12,7 @@ use lib.Seq.{append-snoc, take-suc-set, drop-set-lt}
 use lib.Dec.{eqb}
 use borrow.Author.Tests.{eqb-true}
 use Rattle.frame.specs.declared.Found.{Found}
+use Rattle.frame.specs.declared.Told.{Told}
 use Rattle.frame.specs.Verdict.{Rules, first, any, accepted, refused, total, watched, findings}
 use Rattle.frame.specs.Machine.{State, items, sum, earlier, itemTally, itemCounted}
 
@@ -42,14 +43,14 @@ map-take g (suc n) [] = refl
 map-take g (suc n) (x ∷ l) = ap (λ (r : List ℕ). g x ∷ r) (map-take g n l)
 
 module _ (R : Rules) where
-  pub findings-take : (told k n : ℕ) (rs : List (List ℕ)) → findings R told k (take n rs) ≡ take n (findings R told k rs)
+  pub findings-take : (told : Told) (k n : ℕ) (rs : List (List ℕ)) → findings R told k (take n rs) ≡ take n (findings R told k rs)
   unfolding findings
   findings-take told k zero [] = refl
   findings-take told k zero (r ∷ rs) = refl
   findings-take told k (suc n) [] = refl
   findings-take told k (suc n) (r ∷ rs) = ap (λ (fs : List Found). R .item told k r ∷ fs) (findings-take told (k + 1) n rs)
 
-  pub findings-length : (told k : ℕ) (rs : List (List ℕ)) → length (findings R told k rs) ≡ length rs
+  pub findings-length : (told : Told) (k : ℕ) (rs : List (List ℕ)) → length (findings R told k rs) ≡ length rs
   unfolding findings
   findings-length told k [] = refl
   findings-length told k (r ∷ rs) = ap suc (findings-length told (k + 1) rs)

@@ -152,7 +152,10 @@ module _ (R : Rules) (ok : Sound R) (t m : List ℕ) where
   totals r c = go (overflows R t m) (eqb (messageCode R m) 0) refl r c
     where
       v : Bool → Bool → Verdict
-      v o z = cond o overflow (given (cond z (counted (toldBy R m) (foundIn R m) (identifier R m)) (blank (toldBy R m) (messageCode R m) (identifier R m))))
+      v o z =
+          cond o
+          overflow
+          (given (cond z (counted (toldBy R m .kind) (foundIn R m) (identifier R m)) (blank (toldBy R m .kind) (messageCode R m) (identifier R m))))
 
       go : (o z : Bool) → eqb (messageCode R m) 0 ≡ z → v o z .refusal ≡ 0 → v o z .closing .code ≡ 0 → Totalled (v o z .closing)
       go true z q r c = absurd (omega arith)

@@ -6,3 +6,5 @@ pub mod Faults
 pub mod Places
 pub mod Empty
 pub mod Cut
+pub mod Alike
+pub mod Kept

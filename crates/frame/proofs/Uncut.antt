@@ -11,6 +11,7 @@ use lib.Dec.{leb, ltb, eqb}
 use borrow.Author.Tests.{le-leb, lt-leb, leb-true, leb-false, eqb-true, eqb-false, eq-eqb, ne-eqb, lt-ltb, le-ltb, ltb-true, ltb-false, not-true}
 use Rattle.base.proofs.Every.{both}
 use Rattle.frame.specs.declared.Found.{Found}
+use Rattle.frame.specs.declared.Told.{Told}
 use Rattle.frame.specs.Records.{Sizes, lengths, noId, ended, isFoot, itemStands, footStands, itemsIn, restAfter}
 use Rattle.frame.specs.Verdict.{Rules, Verdict, blank, overflow, given, counted, findings, messageCode, identifier, toldBy, verdict, tableAfter}
 use Rattle.frame.specs.Machine.{State, fresh, at, items, size, headRead, itemTally, itemCounted, itemRead, footTally, footRead, judged, run, closing}
@@ -63,19 +64,20 @@ shorter n x l g = omega (arith, length-drop (Z .item + 2) x, ended-long (Z .item
 
 module _ (R : Rules) where
   -- a state that is neither at the foot nor overflown says 26
-  open-says : (s : State) → s .tally .phase ≤ 1 → (h : List ℕ) → closing (at (s .tally .phase) h s .tally) ≡ given (blank (s .tally .told) 26 (s .tally .id))
+  open-says : (s : State) → s .tally .phase ≤ 1 → (h : List ℕ)
+      → closing (at (s .tally .phase) h s .tally) ≡ given (blank (s .tally .told .kind) 26 (s .tally .id))
   unfolding closing
   open-says s p h = rw (ne-eqb (s .tally .phase) 4 (λ e. omega arith), ne-eqb (s .tally .phase) 2 (λ e. omega arith))
 
-  broken-says : (s : State) → closing (at 3 [] s .tally) ≡ given (blank (s .tally .told) 26 (s .tally .id))
+  broken-says : (s : State) → closing (at 3 [] s .tally) ≡ given (blank (s .tally .told .kind) 26 (s .tally .id))
   unfolding closing
   broken-says s = refl
 
   ends-kept : (s : State) (x : List ℕ) → s .tally .phase ≤ 1 → s .held ≡ [] → length x < size (s .tally .phase) x
-      → Ends (run R s x) (given (blank (s .tally .told) 26 (s .tally .id))) (s .table)
+      → Ends (run R s x) (given (blank (s .tally .told .kind) 26 (s .tally .id))) (s .table)
   ends-kept s x p e l = rw (run-kept R s [] x p e l) (record { says = open-says s p x; bytes = refl })
 
-  ends-broken : (s : State) (x : List ℕ) → Ends (run R (at 3 [] s) x) (given (blank (s .tally .told) 26 (s .tally .id))) (s .table)
+  ends-broken : (s : State) (x : List ℕ) → Ends (run R (at 3 [] s) x) (given (blank (s .tally .told .kind) 26 (s .tally .id))) (s .table)
   ends-broken s x = rw (run-broken R s x) (record { says = broken-says s; bytes = refl })
 
   -- after the head
@@ -129,7 +131,8 @@ module _ (R : Rules) where
     abbrev FootEnds : List ℕ → List ℕ → Type 0
     FootEnds r y =
         Ends (run R (footRead R s r) y)
-        (cond (eqb (length y) 0 && ltb 0 (items (s .tally))) (closing (footRead R s r .tally)) (given (blank (s .tally .told) 26 (s .tally .id)))) (s .table)
+        (cond (eqb (length y) 0 && ltb 0 (items (s .tally))) (closing (footRead R s r .tally)) (given (blank (s .tally .told .kind) 26 (s .tally .id))))
+        (s .table)
 
     foot-broken : (r y : List ℕ) → items (s .tally) ≡ 0 → FootEnds r y
     foot-broken r y q = rw (foot-none r q, le-ltb 0 (items (s .tally)) (omega arith), and-false (eqb (length y) 0)) (ends-broken s y)
@@ -142,7 +145,7 @@ module _ (R : Rules) where
         let a : run R (footRead R s r) (b ∷ y) ≡ at 3 [] (footRead R s r) = run-after R (footRead R s r) b y (f .0) in
         let z : eqb (suc (length y)) 0 ≡ false = ne-eqb (suc (length y)) 0 (λ e. omega arith) in
         record {
-          says = rw z (ap (λ (q : State). closing (q .tally)) a ∙ broken-says (footRead R s r) ∙ (λ i. given (blank (f .3 i) 26 (f .1 i))));
+          says = rw z (ap (λ (q : State). closing (q .tally)) a ∙ broken-says (footRead R s r) ∙ (λ i. given (blank (f .3 i .kind) 26 (f .1 i))));
           bytes = ap (λ (q : State). q .table) a ∙ f .2;
         }
 
@@ -158,7 +161,7 @@ module _ (R : Rules) where
     RestEnds y =
         Ends (run R s y)
         (cond (footStands Z y && ltb 0 (items (s .tally))) (closing (footRead R s (take (Z .foot) y) .tally))
-        (given (blank (s .tally .told) 26 (s .tally .id)))) (s .table)
+        (given (blank (s .tally .told .kind) 26 (s .tally .id)))) (s .table)
 
     rest-foot : (y : List ℕ) → isFoot y ≡ true → RestEnds y
     rest-foot y f = go (ended (Z .foot) y) refl
@@ -251,7 +254,7 @@ module _ (R : Rules) where
           item-at s x p e g
           ∙ ap (λ (q : State). run R q y) c
           ∙ h
-          ∙ ap (λ (a : ℕ). run R (tallied s′ (findings R a (items (s′ .tally) + 1) (itemsIn Z n y))) (restAfter Z n y)) (told-counted s f)
+          ∙ ap (λ (a : Told). run R (tallied s′ (findings R a (items (s′ .tally) + 1) (itemsIn Z n y))) (restAfter Z n y)) (told-counted s f)
           ∙ ap (λ (k : ℕ). run R (tallied s′ (findings R (s .tally .told) (k + 1) (itemsIn Z n y))) (restAfter Z n y)) i
 
   -- with more items than the table has bytes, those that have one are counted, and judging stops
@@ -297,7 +300,7 @@ module _ (R : Rules) where
               item-at s x p e g
               ∙ ap (λ (q : State). run R q y) d
               ∙ h
-              ∙ ap (λ (a : ℕ). at 4 [] (tallied s′ (findings R a (items (s′ .tally) + 1) (take (length (s′ .table) - items (s′ .tally)) (itemsIn Z n y)))))
+              ∙ ap (λ (a : Told). at 4 [] (tallied s′ (findings R a (items (s′ .tally) + 1) (take (length (s′ .table) - items (s′ .tally)) (itemsIn Z n y)))))
               (told-counted s f)
               ∙ ap (λ (k : ℕ). at 4 [] (tallied s′ (findings R (s .tally .told) (k + 1) (take (length (s′ .table) - items (s′ .tally)) (itemsIn Z n y))))) i
               ∙ ap (λ (q : ℕ). at 4 [] (tallied s′ (findings R (s .tally .told) (items (s .tally) + 1 + 1) (take q (itemsIn Z n y))))) j

@@ -237,18 +237,18 @@ module _ (R : Rules) (t m : List ℕ) (e : ended (lengths .head) m ≡ true) whe
     unfolding s₁ after-head headRead headTally toldBy
     s₁-told = tally-told after-head fs ∙ rw e
 
-    s₁-numbers : numbers (s₁ .tally) ≡ counted (toldBy R m) fs (identifier R m)
-    s₁-numbers = λ i. record { code = 0; told = s₁-told i; accepted = s₁-accepted i; refused = s₁-refused i; zeros = s₁-zeros i; id = s₁-id i }
+    s₁-numbers : numbers (s₁ .tally) ≡ counted (toldBy R m .kind) fs (identifier R m)
+    s₁-numbers = λ i. record { code = 0; kind = s₁-told i .kind; accepted = s₁-accepted i; refused = s₁-refused i; zeros = s₁-zeros i; id = s₁-id i }
 
     -- what follows from the letters and the code, after the foot
     abbrev after : Bool → ℕ → List ℕ → Closing → ℕ → Verdict
-    after l told id k c = given (cond l (blank told 36 id) (cond (eqb c 0) k (blank told c id)))
+    after l kind id k c = given (cond l (blank kind 36 id) (cond (eqb c 0) k (blank kind c id)))
 
     -- what closing says after the foot
     foot-closing : (s : State) (r : List ℕ) → (items (s .tally) ≡ 0 → ⊥) → (c : ℕ)
         → earlier (s .tally .code) (R .footCode (items (s .tally)) (sum (s .tally)) r) ≡ c
         → closing (footRead R s r .tally)
-        ≡ after (s .tally .letter) (s .tally .told) (s .tally .id) (numbers (s .tally)) c
+        ≡ after (s .tally .letter) (s .tally .told .kind) (s .tally .id) (numbers (s .tally)) c
     unfolding footRead footTally closing
     foot-closing s r q c k = rw (ne-eqb (items (s .tally)) 0 q, k)
 
@@ -269,12 +269,12 @@ module _ (R : Rules) (t m : List ℕ) (e : ended (lengths .head) m ≡ true) whe
     abbrev id : List ℕ
     id = identifier R m
 
-    abbrev told : ℕ
-    told = toldBy R m
+    abbrev kind : ℕ
+    kind = toldBy R m .kind
 
     -- what follows from a foot that stands after some item, and from the letters
     abbrev by : Bool → Bool → Verdict
-    by stands l = cond stands (after l told id (counted told fs id) ranked) (given (blank told 26 id))
+    by stands l = cond stands (after l kind id (counted kind fs id) ranked) (given (blank kind 26 id))
 
     code-is : messageCode R m ≡ cond (footStands Z y && ltb 0 (length its)) (cond letters 36 ranked) 26
     unfolding messageCode
@@ -297,7 +297,7 @@ module _ (R : Rules) (t m : List ℕ) (e : ended (lengths .head) m ≡ true) whe
 
     -- the verdict, with a message code
     abbrev coded : ℕ → Verdict
-    coded c = given (cond (eqb c 0) (counted told fs id) (blank told c id))
+    coded c = given (cond (eqb c 0) (counted kind fs id) (blank kind c id))
 
     opened : verdict R t m ≡ cond (ltb (length t) (length fs)) overflow (coded (messageCode R m))
     unfolding verdict
@@ -322,22 +322,23 @@ module _ (R : Rules) (t m : List ℕ) (e : ended (lengths .head) m ≡ true) whe
     abbrev footed : Verdict
     footed = closing (footRead R s₁ (take (Z .foot) y) .tally)
 
-    closing-is : cond (footStands Z y && ltb 0 (items c₁)) footed (given (blank (c₁ .told) 26 (c₁ .id))) ≡ by (footStands Z y && ltb 0 (length its)) letters
+    closing-is : cond (footStands Z y && ltb 0 (items c₁)) footed (given (blank (c₁ .told .kind) 26 (c₁ .id)))
+        ≡ by (footStands Z y && ltb 0 (length its)) letters
     closing-is = go (footStands Z y) (ltb 0 (length its)) refl
       where
         same-items : ltb 0 (items c₁) ≡ ltb 0 (length its)
         same-items = ap (ltb 0) (s₁-items ∙ found-length)
 
-        broken : given (blank (c₁ .told) 26 (c₁ .id)) ≡ given (blank told 26 id)
-        broken = λ i. given (blank (s₁-told i) 26 (s₁-id i))
+        broken : given (blank (c₁ .told .kind) 26 (c₁ .id)) ≡ given (blank kind 26 id)
+        broken = λ i. given (blank (s₁-told i .kind) 26 (s₁-id i))
 
         says : ltb 0 (length its) ≡ true → footed ≡ by true letters
         says q =
             let n : items c₁ ≡ 0 → ⊥ = λ k. omega (arith, ltb-true 0 (length its) q, s₁-items, found-length) in
             foot-closing s₁ (take (Z .foot) y) n ranked s₁-ranked
-            ∙ (λ i. after (s₁-letter i) (s₁-told i) (s₁-id i) (s₁-numbers i) ranked)
+            ∙ (λ i. after (s₁-letter i) (s₁-told i .kind) (s₁-id i) (s₁-numbers i) ranked)
 
-        go : (b a : Bool) → ltb 0 (length its) ≡ a → cond (b && ltb 0 (items c₁)) footed (given (blank (c₁ .told) 26 (c₁ .id))) ≡ by (b && a) letters
+        go : (b a : Bool) → ltb 0 (length its) ≡ a → cond (b && ltb 0 (items c₁)) footed (given (blank (c₁ .told .kind) 26 (c₁ .id))) ≡ by (b && a) letters
         go true true q = rw (same-items, q) (says q)
         go true false q = rw (same-items, q) broken
         go false a q = broken

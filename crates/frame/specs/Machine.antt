@@ -10,7 +10,7 @@ use Rattle.frame.specs.declared.Totals.{Totals}
 use Rattle.frame.specs.declared.Tally.{Tally}
 use Rattle.frame.specs.declared.Closing.{Closing}
 use Rattle.frame.specs.Records.{lengths, headEnd, itemEnd, footEnd, noId, idOf, ended, isFoot}
-use Rattle.frame.specs.Verdict.{Rules, Verdict, isAccepted, none, blank, overflow, given}
+use Rattle.frame.specs.Verdict.{Rules, Verdict, isAccepted, none, untold, blank, overflow, given}
 
 -- what was counted and found so far, the bytes of the record begun, and the code table
 pub record State : Type 0 where
@@ -20,7 +20,7 @@ pub record State : Type 0 where
 
 -- nothing is read yet
 abbrev pub unread : Tally
-unread = record { phase = 0; told = 0; letter = false; code = 0; accepted = none; refused = none; zeros = 0; id = noId }
+unread = record { phase = 0; told = untold; letter = false; code = 0; accepted = none; refused = none; zeros = 0; id = noId }
 
 abbrev pub fresh : List ℕ → State
 fresh t = record { tally = unread; held = []; table = t }
@@ -157,7 +157,7 @@ joined (p ∷ ps) = p ++ joined ps
 
 -- the numbers of a tally without a fault
 abbrev pub numbers : Tally → Closing
-numbers c = record { code = 0; told = c .told; accepted = c .accepted; refused = c .refused; zeros = c .zeros; id = c .id }
+numbers c = record { code = 0; kind = c .told .kind; accepted = c .accepted; refused = c .refused; zeros = c .zeros; id = c .id }
 
 -- what closing says of a tally
 unfoldable pub closing : Tally → Verdict
@@ -166,5 +166,5 @@ closing c =
     overflow
     (given
     (cond (eqb (c .phase) 2)
-    (cond (c .letter) (blank (c .told) 36 (c .id)) (cond (eqb (c .code) 0) (numbers c) (blank (c .told) (c .code) (c .id))))
-    (blank (c .told) 26 (c .id))))
+    (cond (c .letter) (blank (c .told .kind) 36 (c .id)) (cond (eqb (c .code) 0) (numbers c) (blank (c .told .kind) (c .code) (c .id))))
+    (blank (c .told .kind) 26 (c .id))))

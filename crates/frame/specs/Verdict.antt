@@ -7,18 +7,19 @@ use lib.ListN.{length, take, drop}
 use lib.Dec.{ltb, eqb}
 use Rattle.frame.specs.declared.Found.{Found}
 use Rattle.frame.specs.declared.Totals.{Totals}
+use Rattle.frame.specs.declared.Told.{Told}
 use Rattle.frame.specs.declared.Closing.{Closing}
 use Rattle.frame.specs.Records.{lengths, noId, idOf, headStands, headOf, itemsOf, footOf, isBroken}
 
 -- the field rules of messages. A code is 0 where no fault is found
 pub record Rules : Type 0 where
   -- what the head tells the rules of the items: the one thing that they may take from it
-  pub tells : List ℕ → ℕ
+  pub tells : List ℕ → Told
   -- a bad letter in the head's text, and the code of its first fault
   pub headLetter : List ℕ → Bool
   pub headCode : List ℕ → ℕ
   -- an item: by what the head told and the item's place, from 1
-  pub item : ℕ → ℕ → List ℕ → Found
+  pub item : Told → ℕ → List ℕ → Found
   -- the foot's code, by the items' number and the sum of their amounts; and the count and the sum that it states
   pub footCode : ℕ → ℕ → List ℕ → ℕ
   pub footCount : List ℕ → ℕ
@@ -70,9 +71,13 @@ pub record Verdict : Type 0 where
   pub refusal : ℕ
   pub closing : Closing
 
--- a message code and an identifier beside what the head told, with the five numbers at 0
+-- no head was read: kind 0, and no bar
+abbrev pub untold : Told
+untold = record { kind = 0; barred = false }
+
+-- a message code and an identifier beside the kind of message, with the five numbers at 0
 abbrev pub blank : ℕ → ℕ → List ℕ → Closing
-blank told c id = record { code = c; told = told; accepted = none; refused = none; zeros = 0; id = id }
+blank kind c id = record { code = c; kind = kind; accepted = none; refused = none; zeros = 0; id = id }
 
 -- refused, with nothing to say
 abbrev pub overflow : Verdict
@@ -82,12 +87,12 @@ overflow = record { refusal = 6; closing = blank 0 0 noId }
 abbrev pub given : Closing → Verdict
 given c = record { refusal = 0; closing = c }
 
--- the items that were found, with what the head told and an identifier
+-- the items that were found, with the kind of message and an identifier
 abbrev pub counted : ℕ → List Found → List ℕ → Closing
-counted told fs id =
+counted kind fs id =
     record {
       code = 0;
-      told = told;
+      kind = kind;
       accepted = totalsOf (accepted fs);
       refused = totalsOf (refused fs);
       zeros = watched (accepted fs);
@@ -96,7 +101,7 @@ counted told fs id =
 
 module _ (R : Rules) where
   -- what is found in items of which the first stands at place k
-  unfoldable pub findings : ℕ → ℕ → List (List ℕ) → List Found
+  unfoldable pub findings : Told → ℕ → List (List ℕ) → List Found
   findings told k [] = []
   findings told k (r ∷ rs) = R .item told k r ∷ findings told (k + 1) rs
 
@@ -119,9 +124,9 @@ module _ (R : Rules) where
   unfoldable pub identifier : List ℕ → List ℕ
   identifier m = cond (headStands lengths m) (idOf (headOf lengths m)) noId
 
-  -- what the head told, once one with its right ending was read; else 0
-  unfoldable pub toldBy : List ℕ → ℕ
-  toldBy m = cond (headStands lengths m) (R .tells (headOf lengths m)) 0
+  -- what the head told, once one with its right ending was read
+  unfoldable pub toldBy : List ℕ → Told
+  toldBy m = cond (headStands lengths m) (R .tells (headOf lengths m)) untold
 
   -- more complete items before any break than the table has bytes
   abbrev pub overflows : List ℕ → List ℕ → Bool
@@ -132,7 +137,10 @@ module _ (R : Rules) where
   verdict t m =
       cond (overflows t m)
       overflow
-      (given (cond (eqb (messageCode m) 0) (counted (toldBy m) (foundIn m) (identifier m)) (blank (toldBy m) (messageCode m) (identifier m))))
+      (given
+      (cond (eqb (messageCode m) 0)
+      (counted (toldBy m .kind) (foundIn m) (identifier m))
+      (blank (toldBy m .kind) (messageCode m) (identifier m))))
 
   -- the table afterwards: the items' codes, each in its own byte, and the other bytes as they were
   unfoldable pub tableAfter : List ℕ → List ℕ → List ℕ

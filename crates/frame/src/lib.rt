@@ -22,23 +22,29 @@ pub struct Totals {
     pub sum: u64,
 }
 
+// What the head tells the rules of its items: the kind of message, and whether its bank is barred (02 #101, #105).
+pub struct Told {
+    pub kind: u8,
+    pub barred: bool,
+}
+
 // What was counted and found so far. Phase 0: in the head; 1: after it; 2: the foot is read; 3: broken; 4: overflow; 5: closed.
 // What the head told is all that the rules of items may take from it. The code is the first fault of head, items and foot.
 pub struct Tally {
     pub phase: u8,
     pub letter: bool,
     pub code: u8,
-    pub told: u32,
+    pub told: Told,
     pub accepted: Totals,
     pub refused: Totals,
     pub zeros: u64,
     pub id: [u8; 25],
 }
 
-// What closing gives: the message code, what the head told, accepted count and sum, refused count and sum, the zero watch, the identifier.
+// What closing gives: the message code, the kind of message, accepted count and sum, refused count and sum, the zero watch, the identifier.
 pub struct Closing {
     pub code: u8,
-    pub told: u32,
+    pub kind: u32,
     pub accepted: Totals,
     pub refused: Totals,
     pub zeros: u64,
@@ -124,9 +130,6 @@ pub const ITEM_ENDED: usize = ITEM + 2;
 
 // The bytes of a foot with it.
 pub const FOOT_ENDED: usize = FOOT + 2;
-
-// The most that a head tells.
-pub const MOST_TOLD: u32 = 1;
 
 // The foot stands at a position, with some item before it, and ends the message.
 fn foot_at(message: &[u8], at: usize) -> bool

@@ -1,4 +1,4 @@
-// The head of a message of either kind: what is found in its fields, its code, and the kind that it tells (002 sections 1.1.1 and 2.1.1).
+// The head of a message of either kind: what is found in its fields, its code, and what it tells its items (002 sections 1.1.1 and 2.1.1).
 ghost use mathlib.Core.Path.{_≡_};
 ghost use lib.ListN.{length};
 ghost use Rattle.base.specs.Bytes.{field, same};
@@ -8,7 +8,7 @@ ghost use Rattle.findings.specs.Codes.{firstWhole};
 ghost use Rattle.frame.specs.Records.{lengths};
 ghost use Rattle.fields.specs.Fields.{identifierFound};
 ghost use Rattle.checked.specs.Checked.{debitFound};
-ghost use Rattle.kinds.specs.Kinds.{kindOf};
+ghost use Rattle.kinds.specs.Kinds.{kindOf, isBarredBank, toldOf};
 ghost use Rattle.heads.specs.Heads.{atutalFields, asBeszed, headFields, headFindings, headRulesOf, headFound};
 use findings::Finding;
 use findings::Kind;
@@ -61,6 +61,30 @@ pub fn kind_of(r: &[u8]) -> u32
         return kinds::BESZED;
     }
     kinds::ATUTAL
+}
+
+// The head's bank is barred: positions 35-42 are eight digits, and the number in 35-37 is on the barred list (02, #105).
+fn is_barred(r: &[u8], barred: &[u32]) -> bool
+    ensures { λ b. ⌜ b ≡ isBarredBank (foundIn (now (barred .entry))) (now (r .entry)) ⌝ }
+{
+    if r.len() < 42 {
+        return false;
+    }
+    if !digits::is_digits(&r[34..42]) {
+        return false;
+    }
+    lists::is_listed(barred, digits::number(&r[34..37]) as u32)
+}
+
+// What a head tells the rules of its items: its kind, and whether its bank is barred, of which BESZED knows nothing (02, #101, #105).
+pub fn told_of(r: &[u8], barred: &[u32]) -> frame::Told
+    ensures { λ t. ⌜ t ≡ toldOf (foundIn (now (barred .entry))) (now (r .entry)) ⌝ }
+{
+    let kind = kind_of(r);
+    frame::Told {
+        kind: kind as u8,
+        barred: (kind != kinds::BESZED) & is_barred(r, barred),
+    }
 }
 
 // The identifier of a whole head: not one of the known list.

@@ -1,10 +1,11 @@
 // An item of a message of either kind: 1 is BESZED, any other number ATUTAL (002 sections 1.3.1 and 2.3.1).
 ghost use mathlib.Core.Path.{_≡_};
+ghost use mathlib.Core.Bool.{cond};
 ghost use lib.ListN.{length};
 ghost use Rattle.lists.specs.Banks.{foundIn};
 ghost use Rattle.frame.specs.Records.{lengths};
 ghost use Rattle.findings.specs.Codes.{firstWhole, firstAlone};
-ghost use Rattle.kinds.specs.Codes.{itemFound};
+ghost use Rattle.kinds.specs.Codes.{itemTold};
 ghost use Rattle.items.specs.Items.{dueIn, itemFields, itemFindings, rulesOf};
 use fields::Amount;
 use findings::Finding;
@@ -105,26 +106,36 @@ fn alone_of(f: ItemFindings) -> u8
     ranked_else(number, 39, 32, c)
 }
 
-// What is found in an item at place k of a message of a kind: a bad letter, its codes, its amount, and whether its account is one of zeros.
+// The code of an item: under a bar 14, in place of 0 too, else its own (002 section 1.3.1, note 4; 02, #105).
+fn under_bar(barred: bool, code: u8) -> u8
+    ensures { λ r. ⌜ r ≡ cond barred 14 code ⌝ }
+{
+    if barred {
+        return 14;
+    }
+    code
+}
+
+// What is found in an item at place k, by what its head told: a bad letter, its codes, its amount, and whether its account is one of zeros.
 // The fields are judged straight on: most items have no fault. Bytes of another length are a break.
-pub fn found_in(r: &[u8], k: u64, kind: u32, e: u32, banks: &[u32]) -> frame::Found
-    ensures { λ x. ⌜ x ≡ itemFound kind e (foundIn (now (banks .entry))) k (now (r .entry)) ⌝ }
+pub fn found_in(r: &[u8], k: u64, told: frame::Told, e: u32, banks: &[u32]) -> frame::Found
+    ensures { λ x. ⌜ x ≡ itemTold told e (foundIn (now (banks .entry))) k (now (r .entry)) ⌝ }
 {
     if r.len() != frame::ITEM {
         return frame::Found {
             letter: false,
             fault: 26,
-            code: 0,
+            code: under_bar(told.barred, 0),
             amount: 0,
             zero: false,
         };
     }
-    let f = fields_in(r, k, kind, e, banks);
+    let f = fields_in(r, k, told.kind as u32, e, banks);
     let a = f.amount;
     frame::Found {
         letter: !text::is_text(&r[50..frame::ITEM]),
         fault: whole_of(f),
-        code: alone_of(f),
+        code: under_bar(told.barred, alone_of(f)),
         amount: a.value,
         zero: account::is_zero(&r[34..50]),
     }

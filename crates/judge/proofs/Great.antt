@@ -13,7 +13,7 @@ use borrow.Author.Tests.{leb-true, eq-eqb, eqb-true}
 use Rattle.base.specs.Bytes.{field}
 use Rattle.digits.specs.Digits.{numberOf}
 use Rattle.calendar.specs.Calendar.{isDate}
-use Rattle.lists.specs.Banks.{member, isBankList}
+use Rattle.lists.specs.Banks.{member, isBankList, isBarredList}
 use Rattle.lists.specs.Known.{isKnownList}
 use Rattle.lent.specs.Lent.{Lists, Lent, listRefused, by}
 use Rattle.lent.specs.declared.Refusal.{Refusal}
@@ -73,18 +73,23 @@ pub record Passing (l : Lent) : Type 0 where
   pub day : isDate (l .day) ≡ true
   pub lists : listRefused (l .lists) ≡ Done
 
--- a bank list that isn't refused is one
-list-passes : (l : Lists) → listRefused l ≡ Done → isBankList (l .banks) ≡ true
+-- a bank list and a barred list that aren't refused are such lists
+lists-pass : (l : Lists) → listRefused l ≡ Done → (isBankList (l .banks) ≡ true) × (isBarredList (l .barred) ≡ true)
 unfolding listRefused
-list-passes l q = go (isBankList (l .banks)) (isKnownList (l .known)) q
+lists-pass l q = go (isBankList (l .banks)) (isKnownList (l .known)) (isBarredList (l .barred)) q
   where
-    go : (b k : Bool) → cond b (cond k Done (Refused refusal.KnownList)) (Refused refusal.BankList) ≡ Done → b ≡ true
-    go true k e = refl
-    go false k e = absurd (refused-done e)
+    go : (b k d : Bool) → cond b (cond k (cond d Done (Refused refusal.BarredList)) (Refused refusal.KnownList)) (Refused refusal.BankList) ≡ Done
+        → (b ≡ true) × (d ≡ true)
+    go true true true e = (refl, refl)
+    go true true false e = absurd (refused-done e)
+    go true false d e = absurd (refused-done e)
+    go false k d e = absurd (refused-done e)
 
--- so a bank is listed where it is an element of the list
+-- so a bank is listed, or barred, where it is an element of the list
 pub listed-is-member : (l : Lent) → Passing l → rules l ≡ memberRules l
-listed-is-member l g = by-membership l (list-passes (l .lists) (g .lists))
+listed-is-member l g =
+    let p = lists-pass (l .lists) (g .lists) in
+    by-membership l (p .0) (p .1)
 
 module _ (l : Lent) (g : Passing l) where
   abbrev e : ℕ
@@ -184,10 +189,13 @@ done-none v e = go (eqb (v .refusal) 0) refl e
     go true q e = eqb-true (v .refusal) 0 q
     go false q e = absurd (refused-done e)
 
--- where nothing is refused, the code is the message's, and what is told is what its head told
+-- where nothing is refused, the code is the message's, and the kind the one that its head told
 module _ (R : Rules) (t m : List ℕ) where
   abbrev said : Bool → Bool → Verdict
-  said o z = cond o overflow (given (cond z (counted (toldBy R m) (foundIn R m) (identifier R m)) (blank (toldBy R m) (messageCode R m) (identifier R m))))
+  said o z =
+      cond o
+      overflow
+      (given (cond z (counted (toldBy R m .kind) (foundIn R m) (identifier R m)) (blank (toldBy R m .kind) (messageCode R m) (identifier R m))))
 
   verdict-code : verdict R t m .refusal ≡ 0 → verdict R t m .closing .code ≡ messageCode R m
   unfolding verdict
@@ -198,11 +206,11 @@ module _ (R : Rules) (t m : List ℕ) where
       go false true q r = sym (eqb-true (messageCode R m) 0 q)
       go false false q r = refl
 
-  verdict-told : verdict R t m .refusal ≡ 0 → verdict R t m .closing .told ≡ toldBy R m
+  verdict-kind : verdict R t m .refusal ≡ 0 → verdict R t m .closing .kind ≡ toldBy R m .kind
   unfolding verdict
-  verdict-told r = go (overflows R t m) (eqb (messageCode R m) 0) r
+  verdict-kind r = go (overflows R t m) (eqb (messageCode R m) 0) r
     where
-      go : (o z : Bool) → said o z .refusal ≡ 0 → said o z .closing .told ≡ toldBy R m
+      go : (o z : Bool) → said o z .refusal ≡ 0 → said o z .closing .kind ≡ toldBy R m .kind
       go true z r = absurd (omega arith)
       go false true r = refl
       go false false r = refl
@@ -224,9 +232,9 @@ module _ (l : Lent) (t : List ℕ) (ps : List (List ℕ)) (g : Passing l) (h : l
   code-is : c .closing .code ≡ v .closing .code
   code-is = ap (λ (x : Closed). x .closing .code) says
 
-  -- what the head told is given with every code
-  pub told-is : c .outcome ≡ Done → c .closing .told ≡ toldBy (rules l) (joined ps)
-  told-is o = ap (λ (x : Closed). x .closing .told) says ∙ verdict-told (rules l) t (joined ps) (unrefused o)
+  -- the kind that the head told is given with every code
+  pub kind-is : c .outcome ≡ Done → c .closing .kind ≡ toldBy (rules l) (joined ps) .kind
+  kind-is o = ap (λ (x : Closed). x .closing .kind) says ∙ verdict-kind (rules l) t (joined ps) (unrefused o)
 
   -- with code 00, accepted and refused items number what the foot says, and their amounts make its sum
   pub totals : c .outcome ≡ Done → c .closing .code ≡ 0
@@ -246,6 +254,6 @@ module _ (l : Lent) (t : List ℕ) (ps : List (List ℕ)) (g : Passing l) (h : l
       let m = joined ps in
       let r : messageCode (rules l) m ≡ messageCode M m = ap (λ (R : Rules). messageCode R m) (listed-is-member l g) in
       let q : c .closing .code ≡ messageCode M m = code-is ∙ verdict-code (rules l) t m (unrefused o) ∙ r in (
-        λ z. faultless (l .day) (λ x. member x (l .lists .banks)) (l .lists .known) m (sym q ∙ z),
-        λ f. q ∙ faultless-code (l .day) (λ x. member x (l .lists .banks)) (l .lists .known) m f,
+        λ z. faultless (l .day) (λ x. member x (l .lists .banks)) (l .lists .known) (λ x. member x (l .lists .barred)) m (sym q ∙ z),
+        λ f. q ∙ faultless-code (l .day) (λ x. member x (l .lists .banks)) (l .lists .known) (λ x. member x (l .lists .barred)) m f,
       )

@@ -5,3 +5,4 @@ pub mod Turn
 pub mod Ranges
 pub mod Great
 pub mod Refusals
+pub mod Kept

@@ -18,7 +18,7 @@ use Rattle.lent.specs.declared.Outcome.{Outcome}
 use Rattle.lent.specs.declared.Outcome.the-variants.{Done, Refused}
 use Rattle.frame.specs.Records.{lengths, ended, isFoot}
 use Rattle.frame.specs.Verdict.{Rules}
-use Rattle.frame.specs.Sound.{Sound, mostCode, mostAmount, mostTold}
+use Rattle.frame.specs.Sound.{Sound, CanTell, mostCode, mostAmount, mostKind}
 use Rattle.frame.specs.Machine.{State, fresh, at, items, size, headRead, itemCounted, itemRead, footRead, judged, pushed, step, run}
 use Rattle.kinds.specs.Codes.{rules}
 use Rattle.kinds.proofs.Instance.{sound}
@@ -48,7 +48,7 @@ pub record Ranged (s : Session) : Type 0 where
   pub day : isDate (s .day) ≡ true
   pub most : s .room ≤ most
   pub phase : s .tally .phase ≤ 4
-  pub told : s .tally .told ≤ mostTold
+  pub told : CanTell (s .tally .told)
   pub code : s .tally .code ≤ mostCode
   pub items : s .tally .accepted .count + s .tally .refused .count ≤ s .room
   pub accepted : s .tally .accepted .sum ≤ mostAmount * s .tally .accepted .count
@@ -83,7 +83,7 @@ ranged s e =
     let q₂ = both (leb (s .room) most) _ (q₁ .1) in
     let q₃ = both (tallyInRange (s .room) c) (heldInRange (c .phase) (s .fill) (s .held)) (q₂ .1) in
     let t₁ = both (leb (c .phase) 4) _ (q₃ .0) in
-    let t₂ = both (leb (c .told) mostTold) _ (t₁ .1) in
+    let t₂ = both (leb (c .told .kind) (mostKind (c .told .barred))) _ (t₁ .1) in
     let t₃ = both (leb (c .code) mostCode) _ (t₂ .1) in
     let t₄ = both (leb (items c) (s .room)) _ (t₃ .1) in
     let t₅ = both (leb (c .accepted .sum) (mostAmount * c .accepted .count)) _ (t₄ .1) in
@@ -92,7 +92,7 @@ ranged s e =
       day = q₁ .0;
       most = leb-true (s .room) most (q₂ .0);
       phase = leb-true (c .phase) 4 (t₁ .0);
-      told = leb-true (c .told) mostTold (t₂ .0);
+      told = leb-true (c .told .kind) (mostKind (c .told .barred)) (t₂ .0);
       code = leb-true (c .code) mostCode (t₃ .0);
       items = leb-true (items c) (s .room) (t₄ .0);
       accepted = leb-true (c .accepted .sum) (mostAmount * c .accepted .count) (t₅ .0);
@@ -111,7 +111,7 @@ in-range s v =
       v .day,
       le-leb (s .room) most (v .most),
       le-leb (c .phase) 4 (v .phase),
-      le-leb (c .told) mostTold (v .told),
+      le-leb (c .told .kind) (mostKind (c .told .barred)) (v .told),
       le-leb (c .code) mostCode (v .code),
       le-leb (items c) (s .room) (v .items),
       le-leb (c .accepted .sum) (mostAmount * c .accepted .count) (v .accepted),

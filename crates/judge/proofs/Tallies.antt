@@ -13,15 +13,16 @@ use Rattle.lent.specs.Lent.{Lent}
 use Rattle.frame.specs.declared.Found.{Found}
 use Rattle.frame.specs.declared.Totals.{Totals}
 use Rattle.frame.specs.declared.Tally.{Tally}
+use Rattle.frame.specs.declared.Told.{Told}
 use Rattle.frame.specs.declared.Closing.{Closing}
 use Rattle.frame.specs.Records.{lengths, idOf, ended, isFoot}
 use Rattle.frame.specs.Verdict.{Rules, isAccepted, blank}
-use Rattle.frame.specs.Sound.{mostCode, mostAmount, mostTold}
+use Rattle.frame.specs.Sound.{CanTell, mostCode, mostAmount, mostKind}
 use Rattle.frame.specs.Machine.{phased, items, sum, earlier, more, numbers, closing}
 use Rattle.frame.specs.Machine.{itemTally, itemCounted, headTally, headRead, itemRead, footTally, footRead, judged}
 use Rattle.heads.specs.declared.HeadFound.{HeadFound}
 use Rattle.heads.specs.Heads.{headFound}
-use Rattle.kinds.specs.Codes.{rules, itemFound, footCode}
+use Rattle.kinds.specs.Codes.{rules, itemTold, footCode}
 use Rattle.kinds.proofs.Bounds.{small}
 use Rattle.judge.specs.Session.{stateWith, tallyInRange}
 use Rattle.judge.specs.Inner.{Ready, Countable, Summed, Read, ItemRead, FootRead}
@@ -33,14 +34,14 @@ module _ (room : ℕ) (c : Tally) where
   phase-out h = rw (lt-leb (c .phase) 4 h)
 
   module _ (p : c .phase ≤ 4) where
-    pub told-out : mostTold < c .told → false ≡ tallyInRange room c
+    pub told-out : mostKind (c .told .barred) < c .told .kind → false ≡ tallyInRange room c
     unfolding tallyInRange
-    told-out h = rw (le-leb (c .phase) 4 p, lt-leb (c .told) mostTold h)
+    told-out h = rw (le-leb (c .phase) 4 p, lt-leb (c .told .kind) (mostKind (c .told .barred)) h)
 
-    module _ (o : c .told ≤ mostTold) where
+    module _ (o : CanTell (c .told)) where
       pub code-out : mostCode < c .code → false ≡ tallyInRange room c
       unfolding tallyInRange
-      code-out h = rw (le-leb (c .phase) 4 p, le-leb (c .told) mostTold o, lt-leb (c .code) mostCode h)
+      code-out h = rw (le-leb (c .phase) 4 p, le-leb (c .told .kind) (mostKind (c .told .barred)) o, lt-leb (c .code) mostCode h)
 
       module _ (q : c .code ≤ mostCode) where
         -- what is left to test
@@ -52,7 +53,7 @@ module _ (room : ℕ) (c : Tally) where
 
         marked : left ≡ tallyInRange room c
         unfolding left tallyInRange
-        marked = rw (le-leb (c .phase) 4 p, le-leb (c .told) mostTold o, le-leb (c .code) mostCode q)
+        marked = rw (le-leb (c .phase) 4 p, le-leb (c .told .kind) (mostKind (c .told .barred)) o, le-leb (c .code) mostCode q)
 
         pub items-out : room < items c → false ≡ tallyInRange room c
         unfolding left
@@ -85,15 +86,15 @@ module _ (room : ℕ) (c : Tally) where
 -- closing, by the phase, the letter and the code
 module _ (s : Tally) where
   module _ (k : Closing) where
-    pub close-broken : s .phase ≤ 3 → (s .phase ≡ 2 → ⊥) → k ≡ blank (s .told) 26 (s .id) → k ≡ closing s .closing
+    pub close-broken : s .phase ≤ 3 → (s .phase ≡ 2 → ⊥) → k ≡ blank (s .told .kind) 26 (s .id) → k ≡ closing s .closing
     unfolding closing
     close-broken h e q = rw (ne-eqb (s .phase) 4 (λ e. omega arith), ne-eqb (s .phase) 2 e) q
 
-    pub close-letter : s .phase ≡ 2 → s .letter ≡ true → k ≡ blank (s .told) 36 (s .id) → k ≡ closing s .closing
+    pub close-letter : s .phase ≡ 2 → s .letter ≡ true → k ≡ blank (s .told .kind) 36 (s .id) → k ≡ closing s .closing
     unfolding closing
     close-letter p l q = rw (p, l) q
 
-    pub close-fault : s .phase ≡ 2 → s .letter ≡ false → (s .code ≡ 0 → ⊥) → k ≡ blank (s .told) (s .code) (s .id) → k ≡ closing s .closing
+    pub close-fault : s .phase ≡ 2 → s .letter ≡ false → (s .code ≡ 0 → ⊥) → k ≡ blank (s .told .kind) (s .code) (s .id) → k ≡ closing s .closing
     unfolding closing
     close-fault p l d q = rw (p, l, ne-eqb (s .code) 0 d) q
 
@@ -102,7 +103,7 @@ module _ (s : Tally) where
   close-right p l d = rw (p, l, d)
 
 -- a head is read
-pub head-read : (l : Lent) (r : List ℕ) (s : Tally) (f : HeadFound) (k : ℕ) (i : List ℕ)
+pub head-read : (l : Lent) (r : List ℕ) (s : Tally) (f : HeadFound) (k : Told) (i : List ℕ)
     → f ≡ headFound (l .day) (foundIn (l .lists .banks)) (l .lists .known) r → k ≡ rules l .tells r → i ≡ idOf r
     → _≡_ {A = Tally} (record {
       phase = 1;
@@ -159,15 +160,18 @@ module _ (s : Tally) (r : List ℕ) where
 
 -- an item is read
 module _ (e : ℕ) (banks : List ℕ) (s n : Tally) (t r : List ℕ) where
-  pub item-read : items s < length t → (f : Found) → f ≡ itemFound (s .told) e (foundIn banks) (items s + 1) r → n ≡ itemTally s f
+  pub item-read : items s < length t → (f : Found) → f ≡ itemTold (s .told) e (foundIn banks) (items s + 1) r → n ≡ itemTally s f
       → ItemRead e banks s t r n (set t (items s) (f .code))
   unfolding itemRead itemCounted
   item-read h f p q =
       record {
         reads = λ l d b.
-            let g : f ≡ itemFound (s .told) (l .day) (foundIn (l .lists .banks)) (items s + 1) r =
-            p ∙ sym (λ i. itemFound (s .told) (d i) (foundIn (b i)) (items s + 1) r) in
-            record { tally = rw (lt-ltb (items s) (length t) h, ← g) q; bytes = rw (lt-ltb (items s) (length t) h, ← g) };
+            let g : f ≡ itemTold (s .told) (l .day) (foundIn (l .lists .banks)) (items s + 1) r =
+            p ∙ sym (λ i. itemTold (s .told) (d i) (foundIn (b i)) (items s + 1) r) in
+            record {
+              tally = rw (lt-ltb (items s) (length t) h) (q ∙ ap (itemTally s) g);
+              bytes = rw (lt-ltb (items s) (length t) h) (ap (λ (x : Found). set t (items s) (x .code)) g);
+            };
       }
 
   pub item-over : length t ≤ items s → n ≡ phased 4 s → ItemRead e banks s t r n t
@@ -179,9 +183,9 @@ module _ (e : ℕ) (banks : List ℕ) (s n : Tally) (t r : List ℕ) where
 
 -- what is found in an item can be counted, where the tally is ready
 pub countable : (s : Tally) (t : List ℕ) (day : ℕ) (banks : List ℕ) (k : ℕ) (r : List ℕ) (f : Found) → Ready s t
-    → f ≡ itemFound (s .told) day (foundIn banks) k r → Countable s f
+    → f ≡ itemTold (s .told) day (foundIn banks) k r → Countable s f
 countable s t day banks k r f y e =
-    let a : f .amount < 10 ^ 10 = rw e (small (s .told) day (foundIn banks) k r .amount) in
+    let a : f .amount < 10 ^ 10 = rw e (small (s .told .kind) day (foundIn banks) k r .amount) in
     record {
       accepted = omega (arith, y .items, y .most);
       refused = omega (arith, y .items, y .most);

@@ -9,7 +9,7 @@ use Rattle.frame.specs.declared.Found.{Found}
 use Rattle.frame.specs.declared.Tally.{Tally}
 use Rattle.frame.specs.Verdict.{Rules}
 use Rattle.frame.specs.Machine.{State, items, sum, size, itemRead, footTally, run}
-use Rattle.frame.specs.Sound.{mostCode, mostAmount, mostTold}
+use Rattle.frame.specs.Sound.{CanTell, mostCode, mostAmount}
 use Rattle.kinds.specs.Codes.{rules}
 use Rattle.judge.specs.declared.Left.{Left}
 use Rattle.judge.specs.declared.Walked.{Walked}
@@ -18,7 +18,7 @@ use Rattle.judge.specs.Session.{most, pad, stateWith}
 -- a tally whose numbers are in their ranges, beside a table
 pub record Ready (c : Tally) (t : List ℕ) : Type 0 where
   pub phase : c .phase ≤ 4
-  pub told : c .told ≤ mostTold
+  pub told : CanTell (c .told)
   pub code : c .code ≤ mostCode
   pub most : length t ≤ most
   pub items : items c ≤ length t

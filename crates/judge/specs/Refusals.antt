@@ -1,4 +1,4 @@
--- The refusals of the calls over a session and over a whole message as rows, in 01's order (01, Calls and their answers).
+-- The refusals of the calls over a session and over a whole message as rows, in their order (01, Calls and their answers; 02 #105).
 -- Assumes nothing.
 use Prim.Native.Nat.{ℕ}
 use mathlib.Core.Bool.{not}
@@ -18,7 +18,7 @@ use Rattle.judge.specs.Session.{most, longest, inRange}
 abbrev pub openRefusals : ℕ → List ℕ → List Row
 openRefusals e t = (1, not (isDate e)) ∷ (4, not (leb (length t) most)) ∷ []
 
--- a piece: 5, 2, 3, 4
+-- a piece: 5, 2, 3, 15, 4
 abbrev pub pieceRefusals : Session → Lists → List ℕ → List Row
 pieceRefusals s l t = (5, not (inRange s)) ∷ listRefusals l ++ ((4, not (eqb (length t) (s .room))) ∷ [])
 
@@ -30,6 +30,6 @@ partsRefusals s l t = (5, not (eqb (length (s .held)) longest)) ∷ pieceRefusal
 abbrev pub closeRefusals : Session → List Row
 closeRefusals s = (5, not (inRange s)) ∷ (6, eqb (s .tally .phase) 4) ∷ []
 
--- a whole message: 1, 4, 2, 3, 6
+-- a whole message: 1, 4, 2, 3, 15, 6
 abbrev pub wholeRefusals : Lent → List ℕ → List ℕ → List Row
 wholeRefusals l t m = openRefusals (l .day) t ++ listRefusals (l .lists) ++ ((6, overflows (rules l) t m) ∷ [])

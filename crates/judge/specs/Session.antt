@@ -18,7 +18,7 @@ use Rattle.frame.specs.declared.Closing.{Closing}
 use Rattle.frame.specs.Records.{itemEnd, noId}
 use Rattle.frame.specs.Verdict.{Verdict, verdict, tableAfter, blank}
 use Rattle.frame.specs.Machine.{State, unread, phased, fresh, items, size, run, closing}
-use Rattle.frame.specs.Sound.{mostCode, mostAmount, mostTold}
+use Rattle.frame.specs.Sound.{mostCode, mostAmount, mostKind}
 use Rattle.kinds.specs.Codes.{rules}
 use Rattle.judge.specs.declared.Session.{Session}
 use Rattle.judge.specs.declared.Taken.{Taken}
@@ -53,7 +53,7 @@ sessionOf day room s = record { day = day; room = room; tally = s .tally; fill =
 unfoldable pub tallyInRange : ℕ → Tally → Bool
 tallyInRange room c =
     leb (c .phase) 4
-    && (leb (c .told) mostTold
+    && (leb (c .told .kind) (mostKind (c .told .barred))
     && (leb (c .code) mostCode
     && (leb (items c) room
     && (leb (c .accepted .sum) (mostAmount * c .accepted .count)
@@ -84,7 +84,7 @@ openRefused e t = cond (isDate e) (cond (leb (length t) most) Done (Refused refu
 unfoldable pub opened : ℕ → List ℕ → Taken
 opened e t = by (openRefused e t) (give Done (sessionOf e (length t) (fresh t))) (λ r. give (Refused r) closedSession)
 
--- a piece, beside a table of so many bytes: refusals 5, 2, 3, 4
+-- a piece, beside a table of so many bytes: refusals 5, 2, 3, 15, 4
 unfoldable pub pieceRefused : Session → Lists → ℕ → Outcome
 pieceRefused s l n =
     cond (inRange s)
@@ -135,7 +135,7 @@ pub record Stepped (e room : ℕ) (c : Tally) (fill : ℕ) (h p : List ℕ) (l :
   pub result : give (r .outcome) (partsOf e room (r .tally) (r .fill) h′) ≡ stepped (partsOf e room c fill h) p l t
   pub bytes : t′ ≡ tableStepped (partsOf e room c fill h) p l t
 
--- nothing told, the five numbers at 0, and spaces
+-- kind 0, the five numbers at 0, and spaces
 abbrev pub noClosing : Closing
 noClosing = blank 0 0 noId
 
@@ -158,7 +158,7 @@ closedOf s =
 abbrev pub refusedAs : Refusal → Judged
 refusedAs r = record { outcome = Refused r; closing = noClosing }
 
--- a whole message: refusals 1, 4, 2, 3
+-- a whole message: refusals 1, 4, 2, 3, 15
 unfoldable pub wholeRefused : Lent → List ℕ → Outcome
 wholeRefused l t = by (openRefused (l .day) t) (listRefused (l .lists)) Refused
 

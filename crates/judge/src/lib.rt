@@ -7,6 +7,7 @@ ghost use Prim.Native.Nat.{_+_, _≤_, _<_};
 ghost use lib.ListN.{length, take, drop};
 ghost use Rattle.lent.specs.Lent.{listed, lent};
 ghost use Rattle.frame.specs.Verdict.{blank};
+ghost use Rattle.frame.specs.Sound.{mostKind};
 ghost use Rattle.frame.specs.Machine.{unread, phased, more, itemTally, size, headTally, judged, run, closing};
 ghost use Rattle.kinds.specs.Codes.{rules};
 ghost use Rattle.judge.specs.Session.{
@@ -28,6 +29,7 @@ ghost use Rattle.judge.specs.Session.{
 ghost use Rattle.judge.specs.Inner.{Ready, Countable, Summed, ItemRead, FootRead, Read, Fit, Partial, Became, EndedAs, WalkedOf};
 use frame::Closing;
 use frame::Tally;
+use frame::Told;
 use frame::Totals;
 use lent::Outcome;
 use lent::Refusal;
@@ -115,7 +117,10 @@ fn unread(phase: u8) -> Tally
     let none = Totals { count: 0, sum: 0 };
     Tally {
         phase: phase,
-        told: 0,
+        told: Told {
+            kind: 0,
+            barred: false,
+        },
         letter: false,
         code: 0,
         accepted: none,
@@ -134,6 +139,16 @@ fn phased(phase: u8, tally: Tally) -> Tally
     t
 }
 
+// The most that a kind's number is; under a bar, of which only ATUTAL knows, it is ATUTAL's.
+fn most_kind(barred: bool) -> u8
+    ensures { λ n. ⌜ n ≡ mostKind barred ⌝ }
+{
+    if barred {
+        return 0;
+    }
+    1
+}
+
 // Each number of a tally is in its range, for a table of so many bytes.
 fn tally_in_range(room: usize, t: Tally) -> bool
     requires { ⌜ room ≤ most ⌝ }
@@ -141,10 +156,11 @@ fn tally_in_range(room: usize, t: Tally) -> bool
 {
     let a = t.accepted;
     let r = t.refused;
+    let told = t.told;
     if t.phase > 4 {
         return false;
     }
-    if t.told > frame::MOST_TOLD {
+    if told.kind > most_kind(told.barred) {
         return false;
     }
     if t.code > 99 {
@@ -169,15 +185,15 @@ fn tally_in_range(room: usize, t: Tally) -> bool
 }
 
 // The head is read, without the ending: the rules of its message say what is found in it and what it tells.
-fn head_read(tally: Tally, r: &[u8], day: u32, banks: &[u32], known: &[u8]) -> Tally
-    ensures { λ n. ⌜ n ≡ headTally (rules (lent day (now (banks .entry)) (now (known .entry)))) tally (now (r .entry)) ⌝ }
+fn head_read(tally: Tally, r: &[u8], day: u32, banks: &[u32], known: &[u8], barred: &[u32]) -> Tally
+    ensures { λ n. ⌜ n ≡ headTally (rules (lent day (now (banks .entry)) (now (known .entry)) (now (barred .entry)))) tally (now (r .entry)) ⌝ }
 {
     let f = heads::found_in(r, day, banks, known);
     let a = tally.accepted;
     let b = tally.refused;
     Tally {
         phase: 1,
-        told: heads::kind_of(r),
+        told: heads::told_of(r, barred),
         letter: f.letter,
         code: f.code,
         accepted: a,
@@ -194,18 +210,15 @@ fn counted(tally: Tally, f: frame::Found) -> Tally
 {
     let a = tally.accepted;
     let b = tally.refused;
-    let id = tally.id;
     let accepted = f.code == 0;
-    Tally {
-        phase: 1,
-        told: tally.told,
-        letter: tally.letter | f.letter,
-        code: findings::earlier(tally.code, f.fault),
-        accepted: more(accepted, f.amount, a),
-        refused: more(!accepted, f.amount, b),
-        zeros: one_more(tally.zeros, accepted & f.zero),
-        id: id,
-    }
+    let mut t = tally;
+    t.phase = 1;
+    t.letter = tally.letter | f.letter;
+    t.code = findings::earlier(tally.code, f.fault);
+    t.accepted = more(accepted, f.amount, a);
+    t.refused = more(!accepted, f.amount, b);
+    t.zeros = one_more(tally.zeros, accepted & f.zero);
+    t
 }
 
 // An item is read, without the ending, by its rules, which may use the day and what the head told. Its code goes to its own byte;
@@ -219,7 +232,8 @@ fn item_read(tally: Tally, r: &[u8], day: u32, banks: &[u32], table: &mut [u8]) 
     let k = a.count + b.count;
     let at = k as usize;
     if at < table.len() {
-        let f = items::item::found_in(r, k + 1, tally.told, day, banks);
+        let told = tally.told;
+        let f = items::item::found_in(r, k + 1, told, day, banks);
         table[at] = f.code;
         return counted(tally, f);
     }
@@ -250,16 +264,17 @@ fn record_read(
     day: u32,
     banks: &[u32],
     known: &[u8],
+    barred: &[u32],
     table: &mut [u8],
 ) -> Tally
     requires { ⌜ Ready tally (now table) ⌝ }
     requires { ⌜ length (now x) ≡ size (tally .phase) (now x) ⌝ }
-    ensures { λ n. ⌜ Read (judged (rules (lent day (now (banks .entry)) (now (known .entry)))) (stateWith tally [] (now (table .entry))) (now (x .entry)))
-        n (now (table .exit)) ⌝ }
+    ensures { λ n. ⌜ Read (judged (rules (lent day (now (banks .entry)) (now (known .entry)) (now (barred .entry))))
+        (stateWith tally [] (now (table .entry))) (now (x .entry))) n (now (table .exit)) ⌝ }
 {
     if tally.phase == 0 {
         if frame::has_ending(x, Session::HEAD) {
-            return head_read(tally, &x[0..Session::HEAD], day, banks, known);
+            return head_read(tally, &x[0..Session::HEAD], day, banks, known, barred);
         }
         return phased(3, tally);
     }
@@ -289,11 +304,12 @@ fn walk(
     day: u32,
     banks: &[u32],
     known: &[u8],
+    barred: &[u32],
     table: &mut [u8],
 ) -> Walked
     requires { ⌜ Ready tally (now table) ⌝ }
     requires { ⌜ from ≤ length (now piece) ⌝ }
-    ensures { λ w. ⌜ WalkedOf (rules (lent day (now (banks .entry)) (now (known .entry)))) tally (drop from (now (piece .entry)))
+    ensures { λ w. ⌜ WalkedOf (rules (lent day (now (banks .entry)) (now (known .entry)) (now (barred .entry)))) tally (drop from (now (piece .entry)))
         from (now (table .entry)) w (now (table .exit)) ⌝ }
 {
     let mut t = tally;
@@ -303,7 +319,7 @@ fn walk(
         if piece.len() - i < n {
             return Walked { tally: t, at: i };
         }
-        t = record_read(t, &piece[i..i + n], day, banks, known, table);
+        t = record_read(t, &piece[i..i + n], day, banks, known, barred, table);
         i += n;
     }
     Walked { tally: t, at: i }
@@ -365,14 +381,15 @@ fn onward(
     day: u32,
     banks: &[u32],
     known: &[u8],
+    barred: &[u32],
     table: &mut [u8],
 ) -> Left
     requires { ⌜ Ready tally (now table) ⌝ }
     requires { ⌜ (length (now held) ≡ longest) × (from ≤ length (now piece)) ⌝ }
-    ensures { λ l. ⌜ Became (run (rules (lent day (now (banks .entry)) (now (known .entry)))) (stateWith tally [] (now (table .entry)))
+    ensures { λ l. ⌜ Became (run (rules (lent day (now (banks .entry)) (now (known .entry)) (now (barred .entry)))) (stateWith tally [] (now (table .entry)))
         (drop from (now (piece .entry)))) l (now (held .exit)) (now (table .exit)) ⌝ }
 {
-    let w = walk(tally, piece, from, day, banks, known, table);
+    let w = walk(tally, piece, from, day, banks, known, barred, table);
     let t = w.tally;
     let at = w.at;
     ended(t, held, &piece[at..])
@@ -387,15 +404,16 @@ fn fed(
     day: u32,
     banks: &[u32],
     known: &[u8],
+    barred: &[u32],
     table: &mut [u8],
 ) -> Left
     requires { ⌜ Fit tally fill (now held) (now table) ⌝ }
     requires { ⌜ length (now held) ≡ longest ⌝ }
-    ensures { λ l. ⌜ Became (run (rules (lent day (now (banks .entry)) (now (known .entry))))
+    ensures { λ l. ⌜ Became (run (rules (lent day (now (banks .entry)) (now (known .entry)) (now (barred .entry))))
         (stateWith tally (take fill (now (held .entry))) (now (table .entry))) (now (piece .entry))) l (now (held .exit)) (now (table .exit)) ⌝ }
 {
     if fill == 0 {
-        return onward(tally, held, piece, 0, day, banks, known, table);
+        return onward(tally, held, piece, 0, day, banks, known, barred, table);
     }
     if piece.len() == 0 {
         cleared(held, fill);
@@ -417,8 +435,8 @@ fn fed(
         };
     }
     text::put(&mut held[fill..], &piece[..n]);
-    let t = record_read(tally, &held[..fill + n], day, banks, known, table);
-    onward(t, held, piece, n, day, banks, known, table)
+    let t = record_read(tally, &held[..fill + n], day, banks, known, barred, table);
+    onward(t, held, piece, n, day, banks, known, barred, table)
 }
 
 // The record begun isn't whole, and none is begun after the foot, a break or an overflow.
@@ -452,7 +470,7 @@ fn in_range(day: u32, room: usize, tally: Tally, fill: usize, held: &[u8]) -> bo
     holds(tally.phase, fill, held)
 }
 
-// Whether a piece may be taken, beside a table of so many bytes: refusals 5, 2, 3, 4.
+// Whether a piece may be taken, beside a table of so many bytes: refusals 5, 2, 3, 15, 4.
 fn refusal_of(
     day: u32,
     room: usize,
@@ -461,9 +479,11 @@ fn refusal_of(
     held: &[u8],
     banks: &[u32],
     known: &[u8],
+    barred: &[u32],
     len: usize,
 ) -> Outcome
-    ensures { λ r. ⌜ r ≡ partsRefused (partsOf day room tally fill (now (held .entry))) (listed (now (banks .entry)) (now (known .entry))) len ⌝ }
+    ensures { λ r. ⌜ r ≡ partsRefused (partsOf day room tally fill (now (held .entry)))
+        (listed (now (banks .entry)) (now (known .entry)) (now (barred .entry))) len ⌝ }
 {
     if held.len() != frame::ITEM_ENDED {
         return Outcome::Refused(Refusal::Session);
@@ -471,7 +491,7 @@ fn refusal_of(
     if !in_range(day, room, tally, fill, held) {
         return Outcome::Refused(Refusal::Session);
     }
-    match lent::list_refused(banks, known) {
+    match lent::list_refused(banks, known, barred) {
         Outcome::Refused(r) => Outcome::Refused(r),
         Outcome::Done => {
             if len != room {
@@ -482,7 +502,7 @@ fn refusal_of(
     }
 }
 
-// A piece is taken where the session is in parts, with as many bytes lent for those held as the longest record has: refusals 5, 2, 3, 4.
+// A piece is taken where the session is in parts, with as many bytes lent for those held as the longest record has: refusals 5, 2, 3, 15, 4.
 // After a refusal all that is lent is as it was.
 pub fn take_lent(
     day: u32,
@@ -493,19 +513,30 @@ pub fn take_lent(
     piece: &[u8],
     banks: &[u32],
     known: &[u8],
+    barred: &[u32],
     table: &mut [u8],
 ) -> Step
-    ensures { λ r. ⌜ Stepped day room tally fill (now (held .entry)) (now (piece .entry)) (listed (now (banks .entry)) (now (known .entry)))
-        (now (table .entry)) r (now (held .exit)) (now (table .exit)) ⌝ }
+    ensures { λ r. ⌜ Stepped day room tally fill (now (held .entry)) (now (piece .entry))
+        (listed (now (banks .entry)) (now (known .entry)) (now (barred .entry))) (now (table .entry)) r (now (held .exit)) (now (table .exit)) ⌝ }
 {
-    match refusal_of(day, room, tally, fill, held, banks, known, table.len()) {
+    match refusal_of(
+        day,
+        room,
+        tally,
+        fill,
+        held,
+        banks,
+        known,
+        barred,
+        table.len(),
+    ) {
         Outcome::Refused(r) => Step {
             tally: tally,
             fill: fill,
             outcome: Outcome::Refused(r),
         },
         Outcome::Done => {
-            let l = fed(tally, fill, held, piece, day, banks, known, table);
+            let l = fed(tally, fill, held, piece, day, banks, known, barred, table);
             let t = l.tally;
             Step {
                 tally: t,
@@ -578,9 +609,17 @@ impl Session {
         in_range(self.day, self.room, t, self.fill, &h)
     }
 
-    // A piece is taken: refusals 5, 2, 3, 4.
-    pub fn take(self, piece: &[u8], banks: &[u32], known: &[u8], table: &mut [u8]) -> Taken
-        ensures { λ r. ⌜ Took self (now (piece .entry)) (listed (now (banks .entry)) (now (known .entry))) (now (table .entry)) r (now (table .exit)) ⌝ }
+    // A piece is taken: refusals 5, 2, 3, 15, 4.
+    pub fn take(
+        self,
+        piece: &[u8],
+        banks: &[u32],
+        known: &[u8],
+        barred: &[u32],
+        table: &mut [u8],
+    ) -> Taken
+        ensures { λ r. ⌜ Took self (now (piece .entry)) (listed (now (banks .entry)) (now (known .entry)) (now (barred .entry)))
+            (now (table .entry)) r (now (table .exit)) ⌝ }
     {
         let t = self.tally;
         let mut h = self.held;
@@ -593,6 +632,7 @@ impl Session {
             piece,
             banks,
             known,
+            barred,
             table,
         );
         let o = step.outcome;
@@ -636,14 +676,14 @@ impl Session {
     }
 }
 
-// What the head told, a code with the five numbers at 0, and an identifier.
-fn blank(told: u32, code: u8, id: [u8; 25]) -> Closing
-    ensures { λ r. ⌜ r ≡ blank told code id ⌝ }
+// The kind of message, a code with the five numbers at 0, and an identifier.
+fn blank(kind: u32, code: u8, id: [u8; 25]) -> Closing
+    ensures { λ r. ⌜ r ≡ blank kind code id ⌝ }
 {
     let none = Totals { count: 0, sum: 0 };
     Closing {
         code: code,
-        told: told,
+        kind: kind,
         accepted: none,
         refused: none,
         zeros: 0,
@@ -657,21 +697,23 @@ fn closing_of(t: Tally) -> Closing
     ensures { λ r. ⌜ r ≡ closing t .closing ⌝ }
 {
     let id = t.id;
+    let told = t.told;
+    let kind = told.kind as u32;
     if t.phase != 2 {
-        return blank(t.told, 26, id);
+        return blank(kind, 26, id);
     }
     if t.letter {
-        return blank(t.told, 36, id);
+        return blank(kind, 36, id);
     }
     let code = t.code;
     if code != 0 {
-        return blank(t.told, code, id);
+        return blank(kind, code, id);
     }
     let a = t.accepted;
     let r = t.refused;
     Closing {
         code: 0,
-        told: t.told,
+        kind: kind,
         accepted: a,
         refused: r,
         zeros: t.zeros,

@@ -6,13 +6,14 @@ use mathlib.Core.List.{List, map}
 use Prim.Native.Nat.{ℕ}
 use Rattle.base.specs.Each.{Each}
 use Rattle.frame.specs.declared.Found.{Found}
+use Rattle.frame.specs.declared.Told.{Told}
 use Rattle.findings.specs.Codes.{Code, Ü, T, Rule, always}
 use Rattle.findings.specs.Before.{ruleBefore}
 use Rattle.findings.proofs.Before.{Alike, always-alike, else-alike, whole-before, alone-before}
 use Rattle.atutal.specs.Tables as atutal
 use Rattle.beszed.specs.Tables as beszed
-use Rattle.kinds.specs.Kinds.{kindOf, tables}
-use Rattle.kinds.specs.Codes.{headRules, itemRules, headCodeBy, headCode, itemFoundBy, itemFound, rulesWith, rulesBy, rulesBefore}
+use Rattle.kinds.specs.Kinds.{kindOf, toldOf, tables}
+use Rattle.kinds.specs.Codes.{headRules, itemRules, headCodeBy, headCode, itemFoundBy, itemFound, underBar, itemTold, rulesWith, rulesBy, rulesBefore}
 use Rattle.kinds.proofs.Tables.{of-both}
 
 -- each rule's codes are shared
@@ -50,8 +51,8 @@ module _ (e : ℕ) (isListed : ℕ → Bool) where
   item-before kind k r = same-item-found (itemRules kind e isListed k r) (alike kind k r r .1) r
 
   -- so all that is defined by a message's rules is as before: verdict, code table, closing, reply, slip
-  pub rules-before : (known : List ℕ) → rulesBy e isListed known ≡ rulesBefore e isListed known
-  rules-before known =
-      ap (λ (h : List ℕ → ℕ). rulesWith kindOf h (λ kind k r. itemFound kind e isListed k r)) (fun-ext (head-before known))
-      ∙ ap (λ (i : ℕ → ℕ → List ℕ → Found). rulesWith kindOf (λ r. headCodeBy (map ruleBefore (headRules e isListed known r)) r) i)
-      (fun-ext (λ kind. fun-ext (λ k. fun-ext (item-before kind k))))
+  pub rules-before : (known : List ℕ) (isBarred : ℕ → Bool) → rulesBy e isListed known isBarred ≡ rulesBefore e isListed known isBarred
+  rules-before known isBarred =
+      ap (λ (h : List ℕ → ℕ). rulesWith (toldOf isBarred) h (λ told k r. itemTold told e isListed k r)) (fun-ext (head-before known))
+      ∙ ap (λ (i : Told → ℕ → List ℕ → Found). rulesWith (toldOf isBarred) (λ r. headCodeBy (map ruleBefore (headRules e isListed known r)) r) i)
+      (fun-ext (λ told. fun-ext (λ k. fun-ext (λ r. ap (underBar (told .barred)) (item-before (told .kind) k r)))))

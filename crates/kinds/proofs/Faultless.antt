@@ -13,6 +13,7 @@ use Rattle.text.specs.Text.{isText}
 use Rattle.digits.specs.Digits.{numberOf}
 use Rattle.account.specs.Account.{accountOf, isZeroAccount}
 use Rattle.frame.specs.declared.Found.{Found}
+use Rattle.frame.specs.declared.Told.{Told}
 use Rattle.frame.specs.Records.{lengths, headOf, itemsOf, footOf}
 use Rattle.frame.specs.Verdict.{Rules, total, findings, foundIn, messageCode}
 use Rattle.frame.proofs.Counting.{findings-length}
@@ -29,7 +30,7 @@ use Rattle.fields.specs.Fields.{digitsOf, placeFound, amountFound, filledFound}
 use Rattle.checked.specs.Checked.{bankFound, accountFound, dueFound}
 use Rattle.atutal.specs.Tables as atutal
 use Rattle.beszed.specs.Tables as beszed
-use Rattle.kinds.specs.Kinds.{kindOf, tables}
+use Rattle.kinds.specs.Kinds.{kindOf, toldOf, tables}
 use Rattle.kinds.specs.Codes.{headRules, itemRules, headLetter, headCode, itemFound, rulesBy}
 use Rattle.kinds.specs.Faultless.{amounts, ItemRight, Faultless}
 use Rattle.kinds.proofs.Tables.{of-both, no-code-0, head-whole}
@@ -109,9 +110,9 @@ module _ (e : ℕ) (isListed : ℕ → Bool) (k : ℕ) (r : List ℕ) where
       (type-spares two (h .mark), (number-row, (alone 33 (dueFound e (field 9 16 r)), rest-rows h)))
       (type-spares two (h .mark), (number-row, rest-rows h))
 
-module _ (e : ℕ) (isListed : ℕ → Bool) (known : List ℕ) where
+module _ (e : ℕ) (isListed : ℕ → Bool) (known : List ℕ) (isBarred : ℕ → Bool) where
   abbrev R : Rules
-  R = rulesBy e isListed known
+  R = rulesBy e isListed known isBarred
 
   -- a whole head
   module _ (r : List ℕ) (h : length r ≡ 174) where
@@ -155,37 +156,38 @@ module _ (e : ℕ) (isListed : ℕ → Bool) (known : List ℕ) where
   Long = Each (λ r. length r ≡ 249)
 
   -- what is found in whole items, by what stands in them
-  texts : (told k : ℕ) (rs : List (List ℕ)) → Long rs → Each (λ f. f .letter ≡ false) (findings R told k rs)
+  texts : (told : Told) (k : ℕ) (rs : List (List ℕ)) → Long rs → Each (λ f. f .letter ≡ false) (findings R told k rs)
       → Each (λ r. isText (field 51 249 r) ≡ true) rs
   unfolding findings
   texts told k [] l h = tt
   texts told k (r ∷ rs) l h =
-      (not-false (isText (field 51 249 r)) (sym (ap (λ (f : Found). f .letter) (item-is told k r (l .0))) ∙ h .0), texts told (k + 1) rs (l .1) (h .1))
+      (not-false (isText (field 51 249 r)) (sym (ap (λ (f : Found). f .letter) (item-is (told .kind) k r (l .0))) ∙ h .0), texts told (k + 1) rs (l .1) (h .1))
 
-  letters : (told k : ℕ) (rs : List (List ℕ)) → Long rs → Each (λ r. isText (field 51 249 r) ≡ true) rs
+  letters : (told : Told) (k : ℕ) (rs : List (List ℕ)) → Long rs → Each (λ r. isText (field 51 249 r) ≡ true) rs
       → Each (λ f. f .letter ≡ false) (findings R told k rs)
   unfolding findings
   letters told k [] l h = tt
-  letters told k (r ∷ rs) l h = (ap (λ (f : Found). f .letter) (item-is told k r (l .0)) ∙ ap not (h .0), letters told (k + 1) rs (l .1) (h .1))
+  letters told k (r ∷ rs) l h = (ap (λ (f : Found). f .letter) (item-is (told .kind) k r (l .0)) ∙ ap not (h .0), letters told (k + 1) rs (l .1) (h .1))
 
-  spared : (told k : ℕ) (rs : List (List ℕ)) → Long rs → Each (λ f. f .fault ≡ 0) (findings R told k rs) → Each ItemRight rs
+  spared : (told : Told) (k : ℕ) (rs : List (List ℕ)) → Long rs → Each (λ f. f .fault ≡ 0) (findings R told k rs) → Each ItemRight rs
   unfolding findings
   spared told k [] l h = tt
   spared told k (r ∷ rs) l h =
-      let z : firstWhole (itemRules told e isListed k r) ≡ 0 = sym (ap (λ (f : Found). f .fault) (item-is told k r (l .0))) ∙ h .0 in
-      (item-right e isListed k r told (none-spoils (itemRules told e isListed k r) (item-coded told k r) z), spared told (k + 1) rs (l .1) (h .1))
+      let z : firstWhole (itemRules (told .kind) e isListed k r) ≡ 0 = sym (ap (λ (f : Found). f .fault) (item-is (told .kind) k r (l .0))) ∙ h .0 in
+      let n = none-spoils (itemRules (told .kind) e isListed k r) (item-coded (told .kind) k r) z in
+      (item-right e isListed k r (told .kind) n, spared told (k + 1) rs (l .1) (h .1))
 
-  faults : (told k : ℕ) (rs : List (List ℕ)) → Long rs → Each ItemRight rs → Each (λ f. f .fault ≡ 0) (findings R told k rs)
+  faults : (told : Told) (k : ℕ) (rs : List (List ℕ)) → Long rs → Each ItemRight rs → Each (λ f. f .fault ≡ 0) (findings R told k rs)
   unfolding findings
   faults told k [] l h = tt
   faults told k (r ∷ rs) l h =
-      let z = no-code (itemRules told e isListed k r) (right-item e isListed k r (h .0) told) in
-      (ap (λ (f : Found). f .fault) (item-is told k r (l .0)) ∙ z, faults told (k + 1) rs (l .1) (h .1))
+      let z = no-code (itemRules (told .kind) e isListed k r) (right-item e isListed k r (h .0) (told .kind)) in
+      (ap (λ (f : Found). f .fault) (item-is (told .kind) k r (l .0)) ∙ z, faults told (k + 1) rs (l .1) (h .1))
 
-  summed : (told k : ℕ) (rs : List (List ℕ)) → Long rs → total (findings R told k rs) ≡ amounts rs
+  summed : (told : Told) (k : ℕ) (rs : List (List ℕ)) → Long rs → total (findings R told k rs) ≡ amounts rs
   unfolding findings
   summed told k [] l = refl
-  summed told k (r ∷ rs) l = rw (item-is told k r (l .0), summed told (k + 1) rs (l .1))
+  summed told k (r ∷ rs) l = rw (item-is (told .kind) k r (l .0), summed told (k + 1) rs (l .1))
 
   module _ (m : List ℕ) where
     abbrev is : List (List ℕ)
@@ -200,8 +202,8 @@ module _ (e : ℕ) (isListed : ℕ → Bool) (known : List ℕ) where
     abbrev foot : List ℕ
     foot = footOf lengths m
 
-    abbrev kind : ℕ
-    kind = kindOf head
+    abbrev told : Told
+    told = toldOf isBarred head
 
     -- code 00 means that there is no fault
     pub faultless : messageCode R m ≡ 0 → Faultless e isListed known m
@@ -213,11 +215,11 @@ module _ (e : ℕ) (isListed : ℕ → Bool) (known : List ℕ) where
         record {
           unbroken = c .unbroken;
           head-text = not-false (isText (field 70 174 head)) (sym (letter-is head h) ∙ c .head-letters);
-          item-texts = texts kind 1 is long (c .item-letters);
+          item-texts = texts told 1 is long (c .item-letters);
           head = all-right (headRules e isListed known head) (head-all-whole head) n;
-          items = spared kind 1 is long (c .items);
-          count = rw (findings-length R kind 1 is) at (t .0);
-          sum = rw (summed kind 1 is long) at (t .1);
+          items = spared told 1 is long (c .items);
+          count = rw (findings-length R told 1 is) at (t .0);
+          sum = rw (summed told 1 is long) at (t .1);
         }
 
     -- and where there is none the code is 00
@@ -225,14 +227,14 @@ module _ (e : ℕ) (isListed : ℕ → Bool) (known : List ℕ) where
     faultless-code f =
         let h = head-long lengths m (f .unbroken) in
         let n = no-code (headRules e isListed known head) (right-spares (headRules e isListed known head) (f .head)) in
-        let p = rw (sym (findings-length R kind 1 is)) at (f .count) in
-        let q = rw (sym (summed kind 1 is long)) at (f .sum) in
+        let p = rw (sym (findings-length R told 1 is)) at (f .count) in
+        let q = rw (sym (summed told 1 is long)) at (f .sum) in
         code-zero R m
         (record {
           unbroken = f .unbroken;
           head-letters = letter-is head h ∙ ap not (f .head-text);
-          item-letters = letters kind 1 is long (f .item-texts);
+          item-letters = letters told 1 is long (f .item-texts);
           head = code-is head h ∙ n;
-          items = faults kind 1 is long (f .items);
+          items = faults told 1 is long (f .items);
           foot = foot-right (length (foundIn R m)) (total (foundIn R m)) foot (foot-long lengths m (f .unbroken)) p q;
         })

@@ -6,3 +6,4 @@ pub mod Faultless
 pub mod Listed
 pub mod Own
 pub mod Before
+pub mod Barred

@@ -19,7 +19,7 @@ use Rattle.checked.specs.Checked.{isTaxForm, initiatorFound, isProviderForm, pr
 use Rattle.lent.specs.Lent.{Lent, lent}
 use Rattle.atutal.specs.Tables as atutal
 use Rattle.beszed.specs.Tables as beszed
-use Rattle.kinds.specs.Kinds.{ATUTAL, BESZED, kindOf, tables}
+use Rattle.kinds.specs.Kinds.{ATUTAL, BESZED, kindOf, toldOf, tables}
 use Rattle.kinds.specs.Codes.{headRules, itemRules, headLetter, headCode, itemFound, footCode, rules}
 use Rattle.kinds.specs.Examples.{padded, given}
 
@@ -47,12 +47,12 @@ pub due-dates :
     ≡ (0 ∷ []) ∷ (0 ∷ []) ∷ (0 ∷ []) ∷ (33 ∷ []) ∷ (33 ∷ []) ∷ (33 ∷ []) ∷ []
 unfolding satisfies isEan13 isTaxForm initiatorFound isProviderForm providerFound leap isDate daysOfYears daysOfMonths daysTo dayNumber isWithin isBefore
     numberOf dateField soonest nextWorkday workdayAfter isDue accountOf isZeroAccount placeFound amountFound bankFound dueFound
-    beszed.headRules beszed.itemRules kindOf tables headRules itemRules itemFound ended isFoot itemsIn restAfter findings
+    beszed.headRules beszed.itemRules kindOf toldOf tables headRules itemRules itemFound ended isFoot itemsIn restAfter findings
 due-dates = refl
 
 -- its kind and its code
 abbrev told : List ℕ → List ℕ
-told m = toldBy (rules given) m ∷ messageCode (rules given) m ∷ []
+told m = toldBy (rules given) m .kind ∷ messageCode (rules given) m ∷ []
 
 -- good; a duplicate code @; an initiator as of ATUTAL; a name of zeros; another message type, which the rules of ATUTAL refuse; the head
 -- alone; and a head that is cut short
@@ -76,6 +76,6 @@ pub kinds-and-codes :
     ∷ []
 unfolding satisfies isEan13 isTaxForm initiatorFound isProviderForm providerFound leap isDate daysOfYears daysOfMonths daysTo dayNumber isWithin isBefore
     numberOf dateField soonest nextWorkday workdayAfter isDue accountOf isZeroAccount purposes placeFound amountFound bankFound compiledFound
-    debitFound dueFound atutal.headRules atutal.itemRules beszed.headRules beszed.itemRules kindOf tables headRules itemRules headLetter headCode
+    debitFound dueFound atutal.headRules atutal.itemRules beszed.headRules beszed.itemRules kindOf toldOf tables headRules itemRules headLetter headCode
     itemFound footCode ended isFoot itemsIn restAfter findings messageCode toldBy
 kinds-and-codes = refl

@@ -23,7 +23,7 @@ use Rattle.checked.specs.Checked.{isTaxForm, initiatorFound, compiledFound, deb
 use Rattle.lent.specs.Lent.{Lent, lent}
 use Rattle.atutal.specs.Tables as atutal
 use Rattle.beszed.specs.Tables as beszed
-use Rattle.kinds.specs.Kinds.{kindOf, tables}
+use Rattle.kinds.specs.Kinds.{kindOf, toldOf, tables}
 use Rattle.kinds.specs.Codes.{headRules, itemRules, headLetter, headCode, itemFound, footCode, rules}
 
 -- what an example is about, and what 01 says of it
@@ -88,9 +88,9 @@ oneItem duplicate date =
     ++ ascii "030000010000000000312400"
     ++ ending
 
--- what is lent with it: E, the banks that it names, no known identifier
+-- what is lent with it: E, the banks that it names, no known identifier, no barred bank
 abbrev pub given : Lent
-given = lent 20200310 (16000009 ∷ 61000009 ∷ []) []
+given = lent 20200310 (16000009 ∷ 61000009 ∷ []) [] []
 
 -- in 01's order
 abbrev pub examples : List Example
@@ -109,7 +109,7 @@ examples =
     ∷ HeadDate 20200310 (ascii "20200224") 0
     ∷ HeadDate 20200310 (ascii "20200223") 44
     ∷ HeadDate 20200310 (ascii "20200311") 44
-    ∷ Message (lent 20200310 [] []) [] 26
+    ∷ Message (lent 20200310 [] [] []) [] 26
     ∷ Message given (oneItem (ascii "0") (ascii "20200301")) 0
     ∷ Message given (take 452 (oneItem (ascii "0") (ascii "20200301"))) 26
     ∷ Message given (oneItem (ascii "X") (ascii "20200301")) 42
@@ -123,6 +123,6 @@ one-item-453 = refl
 
 pub as-01-says : all examples ≡ true
 unfolding satisfies isEan13 isTaxForm initiatorFound leap isDate daysOfYears daysOfMonths daysTo dayNumber isWithin isBefore numberOf dateField
-    accountOf purposes placeFound amountFound bankFound compiledFound debitFound atutal.headRules atutal.itemRules kindOf tables
+    accountOf purposes placeFound amountFound bankFound compiledFound debitFound atutal.headRules atutal.itemRules kindOf toldOf tables
     headRules itemRules headLetter headCode itemFound footCode ended isFoot itemsIn restAfter findings messageCode
 as-01-says = refl

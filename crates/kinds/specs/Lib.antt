@@ -3,3 +3,4 @@ pub mod Codes
 pub mod Faultless
 pub mod Examples
 pub mod Debits
+pub mod Bars

@@ -7,6 +7,9 @@ use libc::STDIN_FILENO;
 use script::end_of;
 use script::field;
 
+// Room for the numbers of a list: each barred code (02 #105), and one number more.
+const LIST: usize = 1001;
+
 fn put_flag(yes: bool) {
     put_next(yes as u64);
 }
@@ -149,6 +152,12 @@ fn banks(space: &mut [u32], s: &[u8]) {
     listed(&space[..count], field(s, 0, 10));
 }
 
+// The numbers of a barred list, ten digits each.
+fn barred(space: &mut [u32], s: &[u8]) {
+    let count = script::fill(space, s);
+    put_flag(lists::is_barred_list(&space[..count]));
+}
+
 // An identifier, and a known list.
 fn known(s: &[u8]) {
     if s.len() < 25 {
@@ -173,7 +182,7 @@ fn foot(s: &[u8]) {
 
 fn answer(command: u8, s: &[u8]) {
     let mut bytes = [0u8; 128];
-    let mut numbers = [0u32; 16];
+    let mut numbers = [0u32; LIST];
     match command {
         b'd' => decimal(s),
         b'c' => put_flag(cdv::satisfies(s)),
@@ -186,6 +195,7 @@ fn answer(command: u8, s: &[u8]) {
         b'f' => date_field(s),
         b'w' => window(s),
         b'b' => banks(&mut numbers, s),
+        b'A' => barred(&mut numbers, s),
         b'k' => known(s),
         b'p' => put_flag(purposes::is_purpose(s)),
         b'z' => foot(s),

@@ -1,9 +1,9 @@
--- What is lent to a judging, which of it is refused, and the refusals' numbers (01, Calls and their answers).
+-- What is lent to a judging, which of it is refused, and the refusals' numbers (01, Calls and their answers; 02 #103, #105).
 -- Assumes nothing.
 use Prim.Native.Nat.{ℕ}
 use mathlib.Core.Bool.{cond}
 use mathlib.Core.List.{List}
-use Rattle.lists.specs.Banks.{isBankList}
+use Rattle.lists.specs.Banks.{isBankList, isBarredList}
 use Rattle.lists.specs.Known.{isKnownList}
 use Rattle.lent.specs.declared.Refusal.{Refusal}
 use Rattle.lent.specs.declared.Refusal.the-variants as refusal
@@ -14,17 +14,18 @@ use Rattle.lent.specs.declared.Outcome.the-variants.{Done, Refused}
 pub record Lists : Type 0 where
   pub banks : List ℕ
   pub known : List ℕ
+  pub barred : List ℕ
 
-abbrev pub listed : List ℕ → List ℕ → Lists
-listed banks known = record { banks = banks; known = known }
+abbrev pub listed : List ℕ → List ℕ → List ℕ → Lists
+listed banks known barred = record { banks = banks; known = known; barred = barred }
 
 -- the clearing day E, and the lists
 pub record Lent : Type 0 where
   pub day : ℕ
   pub lists : Lists
 
-abbrev pub lent : ℕ → List ℕ → List ℕ → Lent
-lent e banks known = record { day = e; lists = listed banks known }
+abbrev pub lent : ℕ → List ℕ → List ℕ → List ℕ → Lent
+lent e banks known barred = record { day = e; lists = listed banks known barred }
 
 -- the number of each refusal
 abbrev pub refusalNumber : Refusal → ℕ
@@ -41,6 +42,7 @@ refusalNumber refusal.Malformed = 10
 refusalNumber refusal.RequestList = 11
 refusalNumber refusal.Fedjel = 12
 refusalNumber refusal.Standing = 13
+refusalNumber refusal.BarredList = 15
 
 -- the number of an outcome: 0, or the refusal's
 abbrev pub outcomeNumber : Outcome → ℕ
@@ -52,9 +54,9 @@ abbrev pub by : {A : Type 0} → Outcome → A → (Refusal → A) → A
 by Done a f = a
 by (Refused r) a f = f r
 
--- the first list that is refused: the bank list (2), the known list (3)
+-- the first list that is refused: the bank list (2), the known list (3), the barred list (15)
 unfoldable pub listRefused : Lists → Outcome
 listRefused l =
     cond (isBankList (l .banks))
-    (cond (isKnownList (l .known)) Done (Refused refusal.KnownList))
+    (cond (isKnownList (l .known)) (cond (isBarredList (l .barred)) Done (Refused refusal.BarredList)) (Refused refusal.KnownList))
     (Refused refusal.BankList)

@@ -1,4 +1,4 @@
-// What is lent to a judging, which of it is refused, and why a call is refused (01, Calls and their answers; 02 #103).
+// What is lent to a judging, which of it is refused, and why a call is refused (01, Calls and their answers; 02 #103, #105).
 ghost use mathlib.Core.Path.{_≡_};
 ghost use Rattle.lent.specs.Lent.{refusalNumber, listed, listRefused};
 
@@ -29,6 +29,8 @@ pub enum Refusal {
     Fedjel,
     // No such request, no standing answer to it, or answer 1 and no cover (02 #103).
     Standing,
+    // The barred list isn't strictly ascending, or holds a number over 999 (02 #105).
+    BarredList,
 }
 
 // The number that 01 or 02 gives the refusal.
@@ -49,6 +51,7 @@ pub fn number(r: Refusal) -> u8
         Refusal::RequestList => 11,
         Refusal::Fedjel => 12,
         Refusal::Standing => 13,
+        Refusal::BarredList => 15,
     }
 }
 
@@ -58,15 +61,18 @@ pub enum Outcome {
     Refused(Refusal),
 }
 
-// The first list that is refused, if one is: refusals 2, 3.
-pub fn list_refused(banks: &[u32], known: &[u8]) -> Outcome
-    ensures { λ r. ⌜ r ≡ listRefused (listed (now (banks .entry)) (now (known .entry))) ⌝ }
+// The first list that is refused, if one is: refusals 2, 3, 15.
+pub fn list_refused(banks: &[u32], known: &[u8], barred: &[u32]) -> Outcome
+    ensures { λ r. ⌜ r ≡ listRefused (listed (now (banks .entry)) (now (known .entry)) (now (barred .entry))) ⌝ }
 {
     if !lists::is_bank_list(banks) {
         return Outcome::Refused(Refusal::BankList);
     }
     if !lists::is_known_list(known) {
         return Outcome::Refused(Refusal::KnownList);
+    }
+    if !lists::is_barred_list(barred) {
+        return Outcome::Refused(Refusal::BarredList);
     }
     Outcome::Done
 }

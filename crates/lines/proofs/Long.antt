@@ -14,8 +14,8 @@ use Rattle.kinds.specs.Kinds.{isBeszed}
 use Rattle.lines.specs.Slip.{lineEnd, places, codeWidth, kindLine, slipOf}
 
 -- both kinds have a line of the same length
-kind-long : (told : ℕ) → length (kindLine told) ≡ 12
-kind-long told = go (isBeszed told)
+kind-long : (kind : ℕ) → length (kindLine kind) ≡ 12
+kind-long kind = go (isBeszed kind)
   where
     go : (b : Bool) → length (cond b (ascii "KIND BESZED" ++ lineEnd) (ascii "KIND ATUTAL" ++ lineEnd)) ≡ 12
     go true = refl
@@ -27,4 +27,4 @@ both t = places (t .count) + places (t .sum)
 
 pub slip-long : (k : Closing) → length (slipOf k) ≡ 48 + codeWidth (k .code) + both (k .accepted) + both (k .refused) + places (k .zeros)
 unfolding slipOf
-slip-long k = simp (length-append, figures-length, kind-long (k .told)) (omega arith)
+slip-long k = simp (length-append, figures-length, kind-long (k .kind)) (omega arith)

@@ -23,7 +23,7 @@ abbrev brokenLines : List ℕ
 brokenLines = ascii "MESSAGE 26" ++ lineEnd ++ ascii "ACCEPTED 0 0" ++ lineEnd ++ ascii "REFUSED 0 0" ++ lineEnd ++ ascii "ZERO 0" ++ lineEnd
 
 -- the closings of an empty message, and of a BESZED's head alone (02, #101)
-pub broken : map (λ told. slipOf (blank told 26 noId)) (ATUTAL ∷ BESZED ∷ [])
+pub broken : map (λ kind. slipOf (blank kind 26 noId)) (ATUTAL ∷ BESZED ∷ [])
     ≡ (ascii "KIND ATUTAL" ++ lineEnd ++ brokenLines) ∷ (ascii "KIND BESZED" ++ lineEnd ++ brokenLines) ∷ []
 unfolding slipOf figures places
 broken = refl

@@ -39,16 +39,16 @@ totalsLine word t = word ++ figures (places (t .count)) (t .count) ++ line (asci
 
 -- the kind that the head told, the end: 12 bytes for either
 abbrev pub kindLine : ℕ → List ℕ
-kindLine told = cond (isBeszed told) (ascii "KIND BESZED" ++ lineEnd) (ascii "KIND ATUTAL" ++ lineEnd)
+kindLine kind = cond (isBeszed kind) (ascii "KIND BESZED" ++ lineEnd) (ascii "KIND ATUTAL" ++ lineEnd)
 
 -- the lines of the kind and of the message code
 abbrev pub frontLines : ℕ → ℕ → List ℕ
-frontLines told code = kindLine told ++ line (ascii "MESSAGE ") (codeWidth code) code
+frontLines kind code = kindLine kind ++ line (ascii "MESSAGE ") (codeWidth code) code
 
 -- what a closing says
 unfoldable pub slipOf : Closing → List ℕ
 slipOf k =
-    frontLines (k .told) (k .code)
+    frontLines (k .kind) (k .code)
     ++ totalsLine (ascii "ACCEPTED ") (k .accepted)
     ++ totalsLine (ascii "REFUSED ") (k .refused)
     ++ line (ascii "ZERO ") (places (k .zeros)) (k .zeros)

@@ -49,21 +49,21 @@ pub(crate) fn put_totals(out: &mut [u8], at: usize, word: &[u8], t: Totals) -> u
 }
 
 // The line of the kind that the head told: 1 is BESZED, any other number ATUTAL.
-fn kind_line(told: u32) -> [u8; 12]
-    ensures { λ r. ⌜ r ≡ kindLine told ⌝ }
+fn kind_line(kind: u32) -> [u8; 12]
+    ensures { λ r. ⌜ r ≡ kindLine kind ⌝ }
 {
-    if told == kinds::BESZED {
+    if kind == kinds::BESZED {
         return *b"KIND BESZED\n";
     }
     *b"KIND ATUTAL\n"
 }
 
 // The lines of the kind and of the message code, at the front of the output.
-fn put_front(out: &mut [u8], told: u32, code: u8) -> usize
-    requires { ⌜ length (frontLines told code) ≤ length (now out) ⌝ }
-    ensures { λ r. ⌜ Put (now (out .entry)) 0 (frontLines told code) r (now (out .exit)) ⌝ }
+fn put_front(out: &mut [u8], kind: u32, code: u8) -> usize
+    requires { ⌜ length (frontLines kind code) ≤ length (now out) ⌝ }
+    ensures { λ r. ⌜ Put (now (out .entry)) 0 (frontLines kind code) r (now (out .exit)) ⌝ }
 {
-    let i = text::put_at(out, 0, &kind_line(told));
+    let i = text::put_at(out, 0, &kind_line(kind));
     put_line(out, i, b"MESSAGE ", code_width(code), code as u64)
 }
 
@@ -87,7 +87,7 @@ pub fn put_closing(out: &mut [u8], k: Closing) -> usize
     }
     let a = k.accepted;
     let b = k.refused;
-    let i = put_front(out, k.told, k.code);
+    let i = put_front(out, k.kind, k.code);
     let i = put_totals(out, i, b"ACCEPTED ", a);
     let i = put_totals(out, i, b"REFUSED ", b);
     put_line(out, i, b"ZERO ", places(k.zeros), k.zeros)

@@ -1,4 +1,5 @@
--- The bank list: numbers of at most eight digits in strictly ascending order (01, The job), and the search by halves.
+-- The bank list and the barred list: numbers of at most eight and of at most three digits in strictly ascending order (01, The job; 02 #105),
+-- and the search by halves.
 -- Assumes nothing.
 use Prim.Native.Nat.{ℕ, zero, suc, _-_, _/_}
 use mathlib.Core.Bool.{Bool, true, false, cond, _&&_, _||_}
@@ -29,6 +30,10 @@ ascendsTo top l = ascends l && every (λ x. leb x top) l
 -- the list is a bank list (01, refusal 2)
 abbrev pub isBankList : List ℕ → Bool
 isBankList = ascendsTo 99999999
+
+-- the list is a barred list (02 #105, refusal 15)
+abbrev pub isBarredList : List ℕ → Bool
+isBarredList = ascendsTo 999
 
 -- the half that can hold x: the first elements if the one in the middle is above x, else those from it on; one element is both halves
 abbrev pub half : ℕ → List ℕ → List ℕ

@@ -4,7 +4,7 @@ ghost use mathlib.Core.Bool.{true};
 ghost use Prim.Native.Nat.{_+_, _≤_};
 ghost use lib.ListN.{length, take, drop};
 ghost use Rattle.base.specs.Bytes.{same};
-ghost use Rattle.lists.specs.Banks.{ascends, ascendsTo, isBankList, foundIn, member};
+ghost use Rattle.lists.specs.Banks.{ascends, ascendsTo, isBankList, isBarredList, foundIn, member};
 ghost use Rattle.lists.specs.Known.{isKnownList, isKnown};
 
 // Whether each number is above the one before it. One pass without a branch: it runs for each piece of a message.
@@ -45,6 +45,13 @@ pub fn is_bank_list(list: &[u32]) -> bool
     ensures { λ r. ⌜ r ≡ isBankList (now (list .entry)) ⌝ }
 {
     ascends_to(list, 99999999)
+}
+
+// Whether the list is a barred list: strictly ascending, no number over three digits (02 #105, refusal 15).
+pub fn is_barred_list(list: &[u32]) -> bool
+    ensures { λ r. ⌜ r ≡ isBarredList (now (list .entry)) ⌝ }
+{
+    ascends_to(list, 999)
 }
 
 // Whether the code is one of the n numbers from a place on. No branch on a number.

@@ -16,7 +16,7 @@ fn refused(r: Refusal) -> Judged
     let none = Totals { count: 0, sum: 0 };
     let closing = Closing {
         code: 0,
-        told: 0,
+        kind: 0,
         accepted: none,
         refused: none,
         zeros: 0,
@@ -28,9 +28,17 @@ fn refused(r: Refusal) -> Judged
     }
 }
 
-// A whole message is judged: opening, one piece and closing; refusals 1, 4, 2, 3, 6.
-pub fn judge(day: u32, banks: &[u32], known: &[u8], table: &mut [u8], message: &[u8]) -> Judged
-    ensures { λ r. ⌜ JudgedAs (lent day (now (banks .entry)) (now (known .entry))) (now (table .entry)) (now (message .entry)) r (now (table .exit)) ⌝ }
+// A whole message is judged: opening, one piece and closing; refusals 1, 4, 2, 3, 15, 6.
+pub fn judge(
+    day: u32,
+    banks: &[u32],
+    known: &[u8],
+    barred: &[u32],
+    table: &mut [u8],
+    message: &[u8],
+) -> Judged
+    ensures { λ r. ⌜ JudgedAs (lent day (now (banks .entry)) (now (known .entry)) (now (barred .entry))) (now (table .entry)) (now (message .entry))
+        r (now (table .exit)) ⌝ }
 {
     let opened = Session::open(day, table);
     let o = opened.outcome;
@@ -38,7 +46,7 @@ pub fn judge(day: u32, banks: &[u32], known: &[u8], table: &mut [u8], message: &
     match o {
         Outcome::Refused(r) => refused(r),
         Outcome::Done => {
-            let taken = s.take(message, banks, known, table);
+            let taken = s.take(message, banks, known, barred, table);
             let o = taken.outcome;
             let s = taken.next;
             match o {

@@ -16,7 +16,7 @@ use Rattle.status.specs.declared.reply.Particulars.{Particulars}
 use Rattle.status.specs.Reply.{replyNumber, answer as answerOf, output, Replied}
 use Rattle.reading.specs.declared.Read.{Read}
 use Rattle.reading.specs.Reading.{ReadAs}
-use Rattle.nshanvekh.specs.Session.{closingNumbers, Told}
+use Rattle.nshanvekh.specs.Session.{closingNumbers, ClosingTold}
 use Rattle.nshanvekh.specs.Message.{
   sizedBoth,
   JudgedNumbers,
@@ -42,7 +42,7 @@ module _ {m : List ℕ} {l : Lent} {t ns id : List ℕ} where
       record { answer = rw h; table = rw h; numbers = refl; identifier = refl }
 
   pub judge-told : not (sizedBoth ns 7 id) ≡ false → {j : Judged} {t′ : List ℕ} → JudgedAs l t m j t′ → {n : ℕ} → n ≡ outcomeNumber (j .outcome)
-      → {r : ℕ} {ns′ id′ : List ℕ} → Told n (j .closing) ns id r ns′ id′ → JudgedNumbers m l t ns id r t′ ns′ id′
+      → {r : ℕ} {ns′ id′ : List ℕ} → ClosingTold n (j .closing) ns id r ns′ id′ → JudgedNumbers m l t ns id r t′ ns′ id′
   judge-told f {j} w {n} q {r} o =
       let h = not-false (sizedBoth ns 7 id) f in
       let a : r ≡ n = o .answer in

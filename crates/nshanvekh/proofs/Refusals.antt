@@ -32,7 +32,7 @@ sized-first false rs e f = e
 pub opening : {e : ℕ} {t x : List ℕ} {r : ℕ} {x′ : List ℕ} → OpenedAs e t x r x′ → r ≡ sizedThen (sized x packedBytes) (openRefusals e t)
 opening {e} {t} {x} w = sized-first (sized x packedBytes) (openRefusals e t) (w .answer) (judge.opening e t)
 
--- a piece: 99, 5, 2, 3, 4
+-- a piece: 99, 5, 2, 3, 15, 4
 pub piece : {x p : List ℕ} {l : Lists} {t : List ℕ} {r : ℕ} {x′ t′ : List ℕ} → PieceAs x p l t r x′ t′
     → r ≡ sizedThen (sized x packedBytes) (pieceRefusals (unpacked x) l t)
 piece {x} {p} {l} {t} w = sized-first (sized x packedBytes) (pieceRefusals (unpacked x) l t) (w .answer) (judge.piece (unpacked x) p l t)
@@ -42,12 +42,12 @@ pub close : {x ns id : List ℕ} {r : ℕ} {x′ ns′ id′ : List ℕ} → Clo
     → r ≡ sizedThen (sizedAll x ns id) (closeRefusals (unpacked x))
 close {x} {ns} {id} w = sized-first (sizedAll x ns id) (closeRefusals (unpacked x)) (w .answer) (judge.close (unpacked x))
 
--- a whole message: 99, 1, 4, 2, 3, 6
+-- a whole message: 99, 1, 4, 2, 3, 15, 6
 pub whole : {m : List ℕ} {l : Lent} {t ns id : List ℕ} {r : ℕ} {t′ ns′ id′ : List ℕ} → JudgedNumbers m l t ns id r t′ ns′ id′
     → r ≡ sizedThen (sizedBoth ns 7 id) (wholeRefusals l t m)
 whole {m} {l} {t} {ns} {id} w = sized-first (sizedBoth ns 7 id) (wholeRefusals l t m) (w .answer) (judge.whole l t m)
 
--- a reply: 99, 1, 2, 3, 6, 7, 8, 9
+-- a reply: 99, 1, 2, 3, 15, 6, 7, 8, 9
 pub reply : {m : List ℕ} {l : Lent} {d n t : ℕ} {out ns : List ℕ} {r : ℕ} {out′ ns′ : List ℕ} → RepliedAs m l d n t out ns r out′ ns′
     → r ≡ sizedThen (sized ns 1) (replyRefusals l m (particularsOf d n t) out)
 reply {m} {l} {d} {n} {t} {out} {ns} w =

@@ -19,7 +19,7 @@ use Rattle.judge.specs.declared.Closed.{Closed}
 use Rattle.judge.specs.Session.{opened, pieceRefused, taken, closedOf}
 use Rattle.packed.specs.Packed.{packedBytes, bytesOf, isPacked, unpacked, PackedAs, TakenIn}
 use Rattle.packed.proofs.Taking.{closed-out}
-use Rattle.nshanvekh.specs.Session.{ifDone, OpenedAs, PieceAs, closingNumbers, Told, sizedAll, ClosedAs}
+use Rattle.nshanvekh.specs.Session.{ifDone, OpenedAs, PieceAs, closingNumbers, ClosingTold, sizedAll, ClosedAs}
 
 -- a session that was packed into a whole buffer
 module _ {s : Session} {x : List ℕ} {b : Bool} {x′ : List ℕ} (h : length x ≡ packedBytes) (p : PackedAs s x b x′) where
@@ -61,6 +61,7 @@ if-done (Refused refusal.Malformed) new old = refl
 if-done (Refused refusal.RequestList) new old = refl
 if-done (Refused refusal.Fedjel) new old = refl
 if-done (Refused refusal.Standing) new old = refl
+if-done (Refused refusal.BarredList) new old = refl
 
 module _ {x p : List ℕ} {l : Lists} {t : List ℕ} where
   pub piece-wrong : (length x ≡ packedBytes → ⊥) → PieceAs x p l t 99 x t
@@ -99,7 +100,7 @@ module _ {x ns id : List ℕ} where
         record { answer = close-answer x ns id h c (k ∙ ap closedOf i) n m; session = rw (h, eq-eqb n 5 e); numbers = rw e; identifier = rw e }
 
     pub close-told : (n ≡ 5 → ⊥) → {b : Bool} {x′ : List ℕ} → PackedAs (c .next) x b x′ → {r : ℕ} {ns′ id′ : List ℕ}
-        → Told n (c .closing) ns id r ns′ id′ → ClosedAs x ns id r x′ ns′ id′
+        → ClosingTold n (c .closing) ns id r ns′ id′ → ClosedAs x ns id r x′ ns′ id′
     close-told e p {r} o =
         let h = not-false (sizedAll x ns id) f in
         let l = eqb-true (length x) packedBytes (both (eqb (length x) packedBytes) _ h .0) in

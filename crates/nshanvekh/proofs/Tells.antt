@@ -11,18 +11,20 @@ use Rattle.frame.specs.declared.Closing.{Closing}
 use Rattle.frame.specs.declared.Status.{Status}
 use Rattle.status.specs.declared.reply.Answer.{Answer}
 use Rattle.status.specs.declared.reply.Answer.the-variants.{Written}
-use Rattle.nshanvekh.specs.Session.{closingNumbers, Told}
+use Rattle.nshanvekh.specs.Session.{closingNumbers, ClosingTold}
 use Rattle.nshanvekh.specs.Message.{ReplyTold, statusNumbers, StatusTold}
 use Rattle.nshanvekh.proofs.Stores.{all-set, all-put}
 
 module _ {n : ℕ} {ns id : List ℕ} where
-  pub told-none : {k : Closing} → (n ≡ 0 → ⊥) → Told n k ns id n ns id
+  pub told-none : {k : Closing} → (n ≡ 0 → ⊥) → ClosingTold n k ns id n ns id
   told-none h =
       let q = ne-eqb n 0 h in
       record { answer = refl; numbers = rw q; identifier = rw q }
 
   pub told : {k : Closing} → n ≡ 0 → length ns ≡ 7 → length id ≡ 25 → length (k .id) ≡ 25 → {id′ : List ℕ} → id′ ≡ withBytes id (k .id)
-      → Told n k ns id n (sets ns 0 (k .code ∷ k .accepted .count ∷ k .accepted .sum ∷ k .refused .count ∷ k .refused .sum ∷ k .zeros ∷ k .told ∷ [])) id′
+      → ClosingTold n k ns id n
+      (sets ns 0 (k .code ∷ k .accepted .count ∷ k .accepted .sum ∷ k .refused .count ∷ k .refused .sum ∷ k .zeros ∷ k .kind ∷ []))
+      id′
   unfolding closingNumbers
   told {k} h l m o {id′} e =
       let q = eq-eqb n 0 h in

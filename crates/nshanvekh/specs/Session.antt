@@ -38,10 +38,10 @@ pub record PieceAs (x p : List ℕ) (l : Lists) (t : List ℕ) (r : ℕ) (x′ t
 
 -- the numbers of a closing: code, accepted count and sum, refused count and sum, zero watch, kind of message
 unfoldable pub closingNumbers : Closing → List ℕ
-closingNumbers k = k .code ∷ k .accepted .count ∷ k .accepted .sum ∷ k .refused .count ∷ k .refused .sum ∷ k .zeros ∷ k .told ∷ []
+closingNumbers k = k .code ∷ k .accepted .count ∷ k .accepted .sum ∷ k .refused .count ∷ k .refused .sum ∷ k .zeros ∷ k .kind ∷ []
 
 -- what a closing tells beside the call's number
-pub record Told (n : ℕ) (k : Closing) (ns id : List ℕ) (r : ℕ) (ns′ id′ : List ℕ) : Type 0 where
+pub record ClosingTold (n : ℕ) (k : Closing) (ns id : List ℕ) (r : ℕ) (ns′ id′ : List ℕ) : Type 0 where
   pub answer : r ≡ n
   pub numbers : ns′ ≡ ifDone n (closingNumbers k) ns
   pub identifier : id′ ≡ ifDone n (k .id) id

@@ -1,10 +1,11 @@
 // What a host links: the judge as functions over numbers and lent memory (include/nshanvekh.h says how C sees each call).
 // A session is bytes that the host keeps, `packed::BYTES` of them. Buffers of a wrong size are refused with 99 before anything else.
 ghost use mathlib.Core.Path.{_≡_};
+ghost use mathlib.Core.List.{[]};
 ghost use lib.ListN.{length};
 ghost use Rattle.single.specs.Single.{singleAnswer};
 ghost use Rattle.lent.specs.Lent.{outcomeNumber, listed, lent};
-ghost use Rattle.nshanvekh.specs.Session.{OpenedAs, PieceAs, ClosedAs, Told};
+ghost use Rattle.nshanvekh.specs.Session.{OpenedAs, PieceAs, ClosedAs, ClosingTold};
 ghost use Rattle.nshanvekh.specs.Covers.{FedjelTold, FedjelAs, FedstaAs};
 ghost use Rattle.nshanvekh.specs.Message.{JudgedNumbers, particularsOf, RepliedAs, StatusAs, StatusTold, ReplyTold};
 ghost use Rattle.single.specs.Numbers.{singleNumber};
@@ -28,7 +29,7 @@ fn number_of(o: Outcome) -> u32
 // What closing gives is written where the call's number is 0.
 fn tell(n: u32, k: Closing, numbers: &mut [u64], id: &mut [u8]) -> u32
     requires { ⌜ (length (now numbers) ≡ 7) × (length (now id) ≡ 25) ⌝ }
-    ensures { λ r. ⌜ Told n k (now (numbers .entry)) (now (id .entry)) r (now (numbers .exit)) (now (id .exit)) ⌝ }
+    ensures { λ r. ⌜ ClosingTold n k (now (numbers .entry)) (now (id .entry)) r (now (numbers .exit)) (now (id .exit)) ⌝ }
 {
     if n != 0 {
         return n;
@@ -42,7 +43,7 @@ fn tell(n: u32, k: Closing, numbers: &mut [u64], id: &mut [u8]) -> u32
     numbers[3] = r.count;
     numbers[4] = r.sum;
     numbers[5] = k.zeros;
-    numbers[6] = k.told as u64;
+    numbers[6] = k.kind as u64;
     text::put(id, &own);
     n
 }
@@ -62,22 +63,23 @@ pub extern "C" fn nsh_open(day: u32, table: &[u8], session: &mut [u8]) -> u32
     number_of(o)
 }
 
-// A piece is taken: refusals 99, 5, 2, 3, 4. A refusal leaves session and table as they were.
+// A piece is taken: refusals 99, 5, 2, 3, 15, 4. A refusal leaves session and table as they were.
 #[no_mangle]
 pub extern "C" fn nsh_piece(
     session: &mut [u8],
     bytes: &[u8],
     banks: &[u32],
     known: &[u8],
+    barred: &[u32],
     table: &mut [u8],
 ) -> u32
-    ensures { λ r. ⌜ PieceAs (now (session .entry)) (now (bytes .entry)) (listed (now (banks .entry)) (now (known .entry))) (now (table .entry))
-        r (now (session .exit)) (now (table .exit)) ⌝ }
+    ensures { λ r. ⌜ PieceAs (now (session .entry)) (now (bytes .entry)) (listed (now (banks .entry)) (now (known .entry)) (now (barred .entry)))
+        (now (table .entry)) r (now (session .exit)) (now (table .exit)) ⌝ }
 {
     if session.len() != packed::BYTES {
         return 99;
     }
-    number_of(packed::take(session, bytes, banks, known, table))
+    number_of(packed::take(session, bytes, banks, known, barred, table))
 }
 
 // The message is over: refusals 99, 5, 6. 5 leaves all that is lent as it was, 6 closes the session and writes nothing else.
@@ -102,24 +104,25 @@ pub extern "C" fn nsh_close(session: &mut [u8], numbers: &mut [u64], id: &mut [u
     tell(n, k, numbers, id)
 }
 
-// A whole message is judged: refusals 99, 1, 4, 2, 3, 6. Where it is refused, numbers and identifier stay as they were.
+// A whole message is judged: refusals 99, 1, 4, 2, 3, 15, 6. Where it is refused, numbers and identifier stay as they were.
 #[no_mangle]
 pub extern "C" fn nsh_judge(
     message: &[u8],
     day: u32,
     banks: &[u32],
     known: &[u8],
+    barred: &[u32],
     table: &mut [u8],
     numbers: &mut [u64],
     id: &mut [u8],
 ) -> u32
-    ensures { λ r. ⌜ JudgedNumbers (now (message .entry)) (lent day (now (banks .entry)) (now (known .entry))) (now (table .entry))
-        (now (numbers .entry)) (now (id .entry)) r (now (table .exit)) (now (numbers .exit)) (now (id .exit)) ⌝ }
+    ensures { λ r. ⌜ JudgedNumbers (now (message .entry)) (lent day (now (banks .entry)) (now (known .entry)) (now (barred .entry)))
+        (now (table .entry)) (now (numbers .entry)) (now (id .entry)) r (now (table .exit)) (now (numbers .exit)) (now (id .exit)) ⌝ }
 {
     if !((numbers.len() == 7) & (id.len() == 25)) {
         return 99;
     }
-    let j = message::judge(day, banks, known, table, message);
+    let j = message::judge(day, banks, known, barred, table, message);
     let o = j.outcome;
     let k = j.closing;
     tell(number_of(o), k, numbers, id)
@@ -136,7 +139,7 @@ pub extern "C" fn nsh_single(
     place: u32,
     kind: u32,
 ) -> u32
-    ensures { λ r. ⌜ r ≡ singleNumber (singleAnswer (lent day (now (banks .entry)) (now (known .entry))) kind place (now (x .entry))) ⌝ }
+    ensures { λ r. ⌜ r ≡ singleNumber (singleAnswer (lent day (now (banks .entry)) (now (known .entry)) []) kind place (now (x .entry))) ⌝ }
 {
     single::number(single::answer(x, place as u64, kind, day, banks, known))
 }
@@ -166,28 +169,29 @@ fn tell_reply(a: Answer, numbers: &mut [u64]) -> u32
     }
 }
 
-// The reply to a whole message goes to the front of the output: refusals 99, 1, 2, 3, 6, 7, 8, 9.
+// The reply to a whole message goes to the front of the output: refusals 99, 1, 2, 3, 15, 6, 7, 8, 9.
 #[no_mangle]
 pub extern "C" fn nsh_reply(
     message: &[u8],
     day: u32,
     banks: &[u32],
     known: &[u8],
+    barred: &[u32],
     duplicate: u8,
     number: u32,
     time: u32,
     out: &mut [u8],
     numbers: &mut [u64],
 ) -> u32
-    ensures { λ r. ⌜ RepliedAs (now (message .entry)) (lent day (now (banks .entry)) (now (known .entry))) duplicate number time (now (out .entry))
-        (now (numbers .entry)) r (now (out .exit)) (now (numbers .exit)) ⌝ }
+    ensures { λ r. ⌜ RepliedAs (now (message .entry)) (lent day (now (banks .entry)) (now (known .entry)) (now (barred .entry)))
+        duplicate number time (now (out .entry)) (now (numbers .entry)) r (now (out .exit)) (now (numbers .exit)) ⌝ }
 {
     if numbers.len() != 1 {
         return 99;
     }
     let p = particulars(duplicate, number, time);
     tell_reply(
-        status::reply::write(day, banks, known, message, p, out),
+        status::reply::write(day, banks, known, barred, message, p, out),
         numbers,
     )
 }

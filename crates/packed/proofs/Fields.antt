@@ -23,7 +23,10 @@ module _ (x : List ℕ) where
   not-packed h = rw (ne-eqb (length x) packedBytes h)
 
   -- the other tests
-  pub tested : length x ≡ packedBytes → eqb (getD x 0 0) 1 && leb (getD x 2 0) 1 ≡ isPacked x
+  abbrev others-pass : Bool
+  others-pass = leb (getD x 2 0) 1 && (leb (getD x 9 0) 1 && (eqb (getD x 10 0) 0 && eqb (getD x 11 0) 0))
+
+  pub tested : length x ≡ packedBytes → eqb (getD x 0 0) 1 && others-pass ≡ isPacked x
   unfolding isPacked
   tested h = rw (eq-eqb (length x) packedBytes h)
 
@@ -36,19 +39,34 @@ module _ (x : List ℕ) where
     unfolding isPacked
     mark = eqb-true (getD x 0 0) 1 (both (eqb (getD x 0 0) 1) _ (both (eqb (length x) packedBytes) _ h .1) .0)
 
-    pub letter : getD x 2 0 ≤ 1
+    -- letter, bar and zeros
+    others : others-pass ≡ true
     unfolding isPacked
-    letter = leb-true (getD x 2 0) 1 (both (eqb (getD x 0 0) 1) _ (both (eqb (length x) packedBytes) _ h .1) .1)
+    others = both (eqb (getD x 0 0) 1) _ (both (eqb (length x) packedBytes) _ h .1) .1
+
+    pub letter : getD x 2 0 ≤ 1
+    letter = leb-true (getD x 2 0) 1 (both (leb (getD x 2 0) 1) _ others .0)
+
+    told : leb (getD x 9 0) 1 && (eqb (getD x 10 0) 0 && eqb (getD x 11 0) 0) ≡ true
+    told = both (leb (getD x 2 0) 1) _ others .1
+
+    pub bar : getD x 9 0 ≤ 1
+    bar = leb-true (getD x 9 0) 1 (both (leb (getD x 9 0) 1) _ told .0)
+
+    pub zeros : (getD x 10 0 ≡ 0) × (getD x 11 0 ≡ 0)
+    zeros =
+        let z = both (eqb (getD x 10 0) 0) (eqb (getD x 11 0) 0) (both (leb (getD x 9 0) 1) _ told .1) in
+        (eqb-true (getD x 10 0) 0 (z .0), eqb-true (getD x 11 0) 0 (z .1))
 
   pub totals : (at : ℕ) {n m : ℕ} → n ≡ valueAt 8 at x → m ≡ valueAt 8 (at + 8) x → record { count = n; sum = m } ≡ totalsAt at x
   totals at p q = rw (p, q)
 
   -- a tally of bytes and numbers, and bytes in a row
-  abbrev pub tallyOf : ℕ → Totals → Totals → ℕ → List ℕ → Tally
-  tallyOf o a r z id =
+  abbrev pub tallyOf : Totals → Totals → ℕ → List ℕ → Tally
+  tallyOf a r z id =
       record {
         phase = getD x 1 0;
-        told = o;
+        told = record { kind = getD x 8 0; barred = eqb (getD x 9 0) 1 };
         letter = eqb (getD x 2 0) 1;
         code = getD x 3 0;
         accepted = a;
@@ -58,10 +76,10 @@ module _ (x : List ℕ) where
       }
 
   -- each field at its place
-  pub tally-fields : {o z : ℕ} {a r : Totals} {id : List ℕ} → a ≡ totalsAt 20 x → r ≡ totalsAt 36 x → id ≡ take 25 (drop 68 x) → o ≡ valueAt 4 8 x
-      → z ≡ valueAt 8 52 x → tallyOf o a r z id ≡ tallyIn x
+  pub tally-fields : {z : ℕ} {a r : Totals} {id : List ℕ} → a ≡ totalsAt 20 x → r ≡ totalsAt 36 x → id ≡ take 25 (drop 68 x) → z ≡ valueAt 8 52 x
+      → tallyOf a r z id ≡ tallyIn x
   unfolding tallyIn
-  tally-fields a r i o z = rw (a, r, i, o, z)
+  tally-fields a r i z = rw (a, r, i, z)
 
   pub fields : {c : Tally} {held : List ℕ} {d o f : ℕ} → c ≡ tallyIn x → held ≡ take longest (drop 93 x) → d ≡ valueAt 4 4 x → o ≡ valueAt 8 12 x
       → f ≡ valueAt 8 60 x → partsOf d o c f held ≡ sessionIn x
@@ -77,6 +95,6 @@ module _ (x : List ℕ) where
   unfolding opened openRefused isDate
   none-opened = refl
 
-  pub others : {b : Bool} → b ≡ isPacked x → b ≡ false → (o : Taken) → o ≡ opened 0 x → o .next ≡ unpacked x
+  pub no-session : {b : Bool} → b ≡ isPacked x → b ≡ false → (o : Taken) → o ≡ opened 0 x → o .next ≡ unpacked x
   unfolding unpacked
-  others e p o q = rw (sym e ∙ p) (ap (λ (w : Taken). w .next) q ∙ none-opened)
+  no-session e p o q = rw (sym e ∙ p) (ap (λ (w : Taken). w .next) q ∙ none-opened)

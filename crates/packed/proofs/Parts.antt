@@ -12,9 +12,10 @@ use Rattle.base.specs.Bytes.{over}
 use Rattle.base.proofs.Over.{length-over}
 use Rattle.text.proofs.At.{PutAt, puts}
 use Rattle.frame.specs.declared.Tally.{Tally}
+use Rattle.frame.specs.declared.Told.{Told}
 use Rattle.judge.specs.declared.Session.{Session}
 use Rattle.judge.specs.Session.{longest, partsOf}
-use Rattle.packed.specs.Packed.{packedBytes, little, flags, counts, eights, bytesOf, tallyOver}
+use Rattle.packed.specs.Packed.{packedBytes, little, flags, toldBytes, counts, eights, bytesOf, countsOver, tallyOver}
 use Rattle.packed.proofs.Little.{little-length, eights-length}
 
 -- over all of a list
@@ -39,11 +40,15 @@ pub flags-length : (c : Tally) → length (flags c) ≡ 3
 unfolding flags
 flags-length c = refl
 
+pub told-length : (t : Told) → length (toldBytes t) ≡ 4
+unfolding toldBytes
+told-length t = refl
+
 pub counts-length : (c : Tally) (fill : ℕ) → length (eights (counts c fill)) ≡ 48
 unfolding counts
 counts-length c fill = eights-length (counts c fill)
 
--- flags, counts and identifier, written one after the other
+-- flags, what was told, counts, and then the identifier
 letter-byte : (l : Bool) → boolByte l ≡ cond l 1 0
 letter-byte true = refl
 letter-byte false = refl
@@ -52,17 +57,34 @@ module _ (c : Tally) (fill : ℕ) (i : length (c .id) ≡ 25) (x : List ℕ) (h 
   abbrev front : List ℕ
   front = c .phase ∷ boolByte (c .letter) ∷ c .code ∷ []
 
-  pub tally-put : {r s : ℕ} {y y₁ z w : List ℕ} → PutAt x 1 front r y → y₁ ≡ over y 8 (little 4 (c .told))
+  abbrev told-front : List ℕ
+  told-front = c .told .kind ∷ boolByte (c .told .barred) ∷ 0 ∷ 0 ∷ []
+
+  pub counts-put : {r t : ℕ} {y y₁ z : List ℕ} → PutAt x 1 front r y → PutAt y 8 told-front t y₁
       → z ≡ over y₁ 20 (eights (c .accepted .count ∷ c .accepted .sum ∷ c .refused .count ∷ c .refused .sum ∷ c .zeros ∷ fill ∷ []))
-      → PutAt z 68 (c .id) s w → w ≡ tallyOver c fill x
-  unfolding tallyOver flags counts
-  tally-put {y = y} {y₁ = y₁} {z = z} p o q r =
+      → z ≡ countsOver c fill x
+  unfolding countsOver flags toldBytes counts
+  counts-put {y = y} {y₁ = y₁} p o q =
       let a : y ≡ over x 1 front = puts x 1 front (omega (arith, h)) p .bytes in
       let l : length y ≡ packedBytes = ap length a ∙ length-over x 1 front (omega (arith, h)) ∙ h in
-      let j : length y₁ ≡ packedBytes = ap length o ∙ length-over y 8 (little 4 (c .told)) (omega (arith, l, little-length 4 (c .told))) ∙ l in
-      let m : length z ≡ packedBytes = ap length q ∙ length-over y₁ 20 (eights (counts c fill)) (omega (arith, j, counts-length c fill)) ∙ j in
-      let b = puts z 68 (c .id) (omega (arith, m, i)) r .bytes in
-      rw (q, o, a, letter-byte (c .letter)) at b
+      let k : y₁ ≡ over y 8 told-front = puts y 8 told-front (omega (arith, l)) o .bytes in
+      rw (k, a, letter-byte (c .letter), letter-byte (c .told .barred)) at q
+
+  counts-long : length (countsOver c fill x) ≡ packedBytes
+  unfolding countsOver
+  counts-long =
+      let y = over x 1 (flags c) in
+      let z = over y 8 (toldBytes (c .told)) in
+      let l : length y ≡ packedBytes = length-over x 1 (flags c) (omega (arith, h, flags-length c)) ∙ h in
+      let m : length z ≡ packedBytes = length-over y 8 (toldBytes (c .told)) (omega (arith, l, told-length (c .told))) ∙ l in
+      length-over z 20 (eights (counts c fill)) (omega (arith, m, counts-length c fill)) ∙ m
+
+  -- and then the identifier
+  pub tally-put : {s : ℕ} {z w : List ℕ} → z ≡ countsOver c fill x → PutAt z 68 (c .id) s w → w ≡ tallyOver c fill x
+  unfolding tallyOver
+  tally-put {z = z} q r =
+      let m : length z ≡ packedBytes = ap length q ∙ counts-long in
+      rw q at (puts z 68 (c .id) (omega (arith, m, i)) r .bytes)
 
 -- bytes in eight parts
 record Parted (x m f d o r n i h : List ℕ) : Type 0 where
@@ -101,30 +123,51 @@ module _ {x m f d o r n i h : List ℕ} (z : Parted x m f d o r n i h) where
         held = z .held;
       }
 
-  tally-over : (c : Tally) (fill : ℕ) → length (c .id) ≡ 25
-      → Parted (tallyOver c fill x) m (flags c) d (little 4 (c .told)) r (eights (counts c fill)) (c .id) h
-  unfolding tallyOver
-  tally-over c fill l =
+  counts-over : (c : Tally) (fill : ℕ) → Parted (countsOver c fill x) m (flags c) d (toldBytes (c .told)) r (eights (counts c fill)) i h
+  unfolding countsOver
+  counts-over c fill =
       let F = flags c in
-      let T = little 4 (c .told) in
+      let T = toldBytes (c .told) in
       let N = eights (counts c fill) in
       let p = flags-length c in
-      let t = little-length 4 (c .told) in
+      let t = told-length (c .told) in
       let q = counts-length c fill in
       let y = over x 1 F in
       let v = over y 8 T in
-      let w = over v 20 N in
       let a : y ≡ m ++ F ++ (d ++ o ++ r ++ n ++ i ++ h) =
       over-part x m f (d ++ o ++ r ++ n ++ i ++ h) F 1 (z .is ∙ simp append-assoc) (z .mark) (z .flags ∙ sym p) in
       let e : v ≡ m ++ F ++ d ++ T ++ (r ++ n ++ i ++ h) =
       over-part y (m ++ F ++ d) o (r ++ n ++ i ++ h) T 8 (a ∙ simp append-assoc) (simp (length-append, z .mark, p, z .day)) (z .told ∙ sym t) in
-      let b : w ≡ m ++ F ++ d ++ T ++ r ++ N ++ (i ++ h) =
+      let b : over v 20 N ≡ m ++ F ++ d ++ T ++ r ++ N ++ (i ++ h) =
       over-part v (m ++ F ++ d ++ T ++ r) n (i ++ h) N 20 (e ∙ simp append-assoc) (simp (length-append, z .mark, p, z .day, t, z .room))
       (z .counts ∙ sym q) in
-      let g : over w 68 (c .id) ≡ m ++ F ++ d ++ T ++ r ++ N ++ c .id ++ h =
-      over-part w (m ++ F ++ d ++ T ++ r ++ N) i h (c .id) 68 (b ∙ simp append-assoc) (simp (length-append, z .mark, p, z .day, t, z .room, q))
-      (z .id ∙ sym l) in
-      record { is = g; mark = z .mark; flags = p; day = z .day; told = t; room = z .room; counts = q; id = l; held = z .held }
+      record {
+        is = b ∙ simp append-assoc;
+        mark = z .mark;
+        flags = p;
+        day = z .day;
+        told = t;
+        room = z .room;
+        counts = q;
+        id = z .id;
+        held = z .held;
+      }
+
+  id-over : (i′ : List ℕ) → length i′ ≡ 25 → Parted (over x 68 i′) m f d o r n i′ h
+  id-over i′ l =
+      let p = m ++ f ++ d ++ o ++ r ++ n in
+      let k : length p ≡ 68 = simp (length-append, z .mark, z .flags, z .day, z .told, z .room, z .counts) in
+      record {
+        is = over-part x p i h i′ 68 (z .is) k (z .id ∙ sym l);
+        mark = z .mark;
+        flags = z .flags;
+        day = z .day;
+        told = z .told;
+        room = z .room;
+        counts = z .counts;
+        id = l;
+        held = z .held;
+      }
 
   held-over : (h′ : List ℕ) → length h′ ≡ longest → Parted (over x 93 h′) m f d o r n i h′
   held-over h′ l =
@@ -142,6 +185,11 @@ module _ {x m f d o r n i h : List ℕ} (z : Parted x m f d o r n i h) where
         id = z .id;
         held = l;
       }
+
+tally-over : {x m f d o r n i h : List ℕ} → Parted x m f d o r n i h → (c : Tally) (fill : ℕ) → length (c .id) ≡ 25
+    → Parted (tallyOver c fill x) m (flags c) d (toldBytes (c .told)) r (eights (counts c fill)) (c .id) h
+unfolding tallyOver
+tally-over z c fill l = id-over (counts-over z c fill) (c .id) l
 
 -- any bytes of that number
 module _ (x : List ℕ) (h : length x ≡ packedBytes) where
@@ -166,6 +214,12 @@ module _ (x : List ℕ) (h : length x ≡ packedBytes) where
         held = omega (arith, length-drop 93 x);
       }
 
+  -- an identifier that stands there is as good as written
+  pub id-stands : (c : Tally) (fill : ℕ) → length (c .id) ≡ 25 → take 25 (drop 68 x) ≡ c .id → countsOver c fill x ≡ tallyOver c fill x
+  id-stands c fill l e =
+      let p = take 1 x ++ flags c ++ at 4 4 ++ toldBytes (c .told) ++ at 8 12 ++ eights (counts c fill) in
+      counts-over any c fill .is ∙ ap (λ (u : List ℕ). p ++ u ++ drop 93 x) e ∙ sym (tally-over any c fill l .is)
+
 -- those of a session
 regroup : (m f d o r n i h : List ℕ) → m ++ f ++ d ++ o ++ (r ++ n) ++ i ++ h ≡ m ++ f ++ d ++ o ++ r ++ n ++ i ++ h
 regroup m f d o r n i h = simp append-assoc
@@ -175,7 +229,7 @@ partsIn s =
     (1 ∷ [])
     ++ flags (s .tally)
     ++ little 4 (s .day)
-    ++ little 4 (s .tally .told)
+    ++ toldBytes (s .tally .told)
     ++ little 8 (s .room)
     ++ eights (counts (s .tally) (s .fill))
     ++ s .tally .id
@@ -184,7 +238,7 @@ partsIn s =
 in-parts : (s : Session) → bytesOf s ≡ partsIn s
 unfolding bytesOf eights
 in-parts s =
-    regroup (1 ∷ []) (flags (s .tally)) (little 4 (s .day)) (little 4 (s .tally .told)) (little 8 (s .room)) (eights (counts (s .tally) (s .fill)))
+    regroup (1 ∷ []) (flags (s .tally)) (little 4 (s .day)) (toldBytes (s .tally .told)) (little 8 (s .room)) (eights (counts (s .tally) (s .fill)))
     (s .tally .id) (s .held)
 
 module _ (s : Session) (i : length (s .tally .id) ≡ 25) (j : length (s .held) ≡ longest) where
@@ -194,14 +248,14 @@ module _ (s : Session) (i : length (s .tally .id) ≡ 25) (j : length (s .held) 
   abbrev n : List ℕ
   n = eights (counts c (s .fill))
 
-  parts : Parted (bytesOf s) (1 ∷ []) (flags c) (little 4 (s .day)) (little 4 (c .told)) (little 8 (s .room)) n (c .id) (s .held)
+  parts : Parted (bytesOf s) (1 ∷ []) (flags c) (little 4 (s .day)) (toldBytes (c .told)) (little 8 (s .room)) n (c .id) (s .held)
   parts =
       record {
         is = in-parts s;
         mark = refl;
         flags = flags-length c;
         day = little-length 4 (s .day);
-        told = little-length 4 (c .told);
+        told = told-length (c .told);
         room = little-length 8 (s .room);
         counts = counts-length c (s .fill);
         id = i;

@@ -2,15 +2,16 @@
 -- Assumes nothing.
 use mathlib.Core.Path.{_≡_, refl, sym, ap, _∙_}
 use mathlib.Core.Bool.{Bool, true, false, not}
-use mathlib.Core.List.{List, [], _++_, append-nil}
-use Prim.Native.Nat.{ℕ, _+_, _-_, _≤_, _<_}
+use mathlib.Core.List.{List, [], _++_, append-nil, append-assoc}
+use Prim.Native.Nat.{ℕ, zero, suc, _+_, _-_, _≤_, _<_}
 use native.Mathlib.Omega.{arith}
 use lib.ListN.{length, getD, take, drop, length-append, length-drop, take-append-drop, drop-of-length-le}
-use lib.Seq.{take-all, drop-at, length-take-le}
+use lib.Seq.{take-all, take-at, drop-at, length-take-le, getD-take}
 use borrow.Author.Tests.{not-true, eq-eqb}
 use borrow.Rule.Slice.PartMut.{putMid}
 use Rattle.base.specs.Bytes.{over}
 use Rattle.base.proofs.Over.{part}
+use Rattle.base.proofs.Parts.{drop-take}
 use Rattle.calendar.specs.Calendar.{isDate}
 use Rattle.lent.specs.Lent.{Lists, by}
 use Rattle.lent.specs.declared.Refusal.{Refusal}
@@ -22,11 +23,13 @@ use Rattle.judge.specs.declared.Session.{Session}
 use Rattle.judge.specs.declared.Taken.{Taken}
 use Rattle.judge.specs.declared.Step.{Step}
 use Rattle.judge.specs.Session.{longest, inRange, closedSession, give, pieceRefused, taken, tableTaken, partsOf, partsRefused, stepped, tableStepped, Stepped}
-use Rattle.packed.specs.Packed.{packedBytes, valueAt, bytesOf, isPacked, tallyIn, sessionIn, unpacked, TakenIn, Fits, tallyOver, TallyPut, SteppedIn}
+use Rattle.packed.specs.Packed.{packedBytes, valueAt, bytesOf, isPacked, tallyIn, sessionIn, unpacked, TakenIn}
+use Rattle.packed.specs.Packed.{Fits, tallyOver, Named, TallyPut, SteppedIn}
 use Rattle.packed.proofs.Little.{value-small}
 use Rattle.packed.proofs.Parts.{over-all, steps}
 use Rattle.packed.proofs.Fields.{long}
 use Rattle.packed.proofs.RoundTrip.{gives-back, of-a-session}
+use Rattle.judge.proofs.Kept.{id-stays}
 
 -- the closed session is refused with 5
 pub closed-out : inRange closedSession ≡ false
@@ -40,6 +43,10 @@ record Stays (s : Session) (w : Taken) : Type 0 where
 stays-by : (s n : Session) (o : Outcome) → Stays s (by o (give Done n) (λ r. give (Refused r) s))
 stays-by s n Done = record { stays = λ f e. let z : _≡_ {A = ℕ} 0 1 = cc in absurd (omega arith) }
 stays-by s n (Refused r) = record { stays = λ f e. refl }
+
+above : (n : ℕ) → (n ≡ 0 → ⊥) → 1 ≤ n
+above zero f = absurd (f refl)
+above (suc n) f = omega arith
 
 refused-stays : (s : Session) (p : List ℕ) (l : Lists) (t : List ℕ) → Stays s (taken s p l t)
 unfolding taken
@@ -108,6 +115,32 @@ module _ {x p : List ℕ} {l : Lists} {t : List ℕ} (h : isPacked x ≡ true) {
       let d : drop 93 y ≡ drop 93 x = ap (λ (w : Session). w .held) u ∙ take-all longest (drop 93 x) (omega (arith, length-drop 93 x, long x h)) in
       let z : y ≡ x = k .stays ∙ ap (over x 93) d ∙ over-same x 93 in
       record { outcome = sym e ∙ ap (λ (w : Taken). w .outcome) next-is; session = z; table = table-is; holds = ap unpacked z ∙ sym q }
+
+  -- the bytes before those held are as they came
+  front : take 93 y ≡ take 93 x
+  unfolding over
+  front =
+      let d = drop 93 y in
+      let a : length (take 93 x) ≡ 93 = length-take-le 93 x (omega (arith, long x h)) in
+      let e : y ≡ take 93 x ++ (d ++ drop (93 + length d) x) = k .stays ∙ append-assoc (take 93 x) d (drop (93 + length d) x) in
+      ap (take 93) e ∙ take-at (take 93 x) (d ++ drop (93 + length d) x) 93 a
+
+  phase-is : getD y 1 0 ≡ getD x 1 0
+  phase-is = sym (getD-take 93 y 1 0 (omega arith)) ∙ ap (λ (l : List ℕ). getD l 1 0) front ∙ getD-take 93 x 1 0 (omega arith)
+
+  id-is : take 25 (drop 68 y) ≡ take 25 (drop 68 x)
+  id-is = sym (drop-take 68 93 y) ∙ ap (drop 68) front ∙ drop-take 68 93 x
+
+  -- so the identifier stands there already, once the head was read
+  pub named : r .outcome ≡ Done → Named (r .tally) y
+  unfolding unpacked sessionIn tallyIn
+  named e =
+      record {
+        stands = λ f.
+            let o : taken (unpacked x) p l t .outcome ≡ Done = ap (λ (w : Taken). w .outcome) (sym next-is) ∙ e in
+            let g = id-stays s p l t (rw h at o) (above (getD x 1 0) (λ z. f (phase-is ∙ z))) in
+            id-is ∙ sym (ap (λ (w : Taken). w .next .tally .id) (rw h at next-is) ∙ g);
+      }
 
   -- else the tally is written where it stood
   pub done : ((i : ℕ) → getD x i 0 < 256) → r .outcome ≡ Done → {z : List ℕ} → TallyPut (r .tally) (r .fill) y z → TakenIn x p l t Done z t′

@@ -8,6 +8,7 @@ use lib.ListN.{length, getD, take, drop}
 use lib.Dec.{leb, eqb}
 use Rattle.base.specs.Bytes.{over}
 use Rattle.frame.specs.declared.Totals.{Totals}
+use Rattle.frame.specs.declared.Told.{Told}
 use Rattle.frame.specs.declared.Tally.{Tally}
 use Rattle.judge.specs.declared.Session.{Session}
 use Rattle.lent.specs.declared.Outcome.{Outcome}
@@ -46,6 +47,10 @@ totalsAt at x = record { count = valueAt 8 at x; sum = valueAt 8 (at + 8) x }
 unfoldable pub flags : Tally → List ℕ
 flags c = c .phase ∷ cond (c .letter) 1 0 ∷ c .code ∷ []
 
+-- what the head told: the kind and the bar, a byte each, and two zeros
+unfoldable pub toldBytes : Told → List ℕ
+toldBytes t = t .kind ∷ cond (t .barred) 1 0 ∷ 0 ∷ 0 ∷ []
+
 -- what was counted, and how many bytes are held
 unfoldable pub counts : Tally → ℕ → List ℕ
 counts c fill =
@@ -62,21 +67,23 @@ unfoldable pub bytesOf : Session → List ℕ
 bytesOf s =
     1 ∷ flags (s .tally)  -- 0-3
     ++ little 4 (s .day)  -- 4-7
-    ++ little 4 (s .tally .told)  -- 8-11
+    ++ toldBytes (s .tally .told)  -- 8-11
     ++ eights (s .room ∷ counts (s .tally) (s .fill))  -- 12-67
     ++ s .tally .id  -- 68-92
     ++ s .held  -- from 93 on
 
--- as many bytes, with the mark, and a letter of 0 or 1
+-- as many bytes, with the mark, a letter and a bar of 0 or 1, and the two zeros
 unfoldable pub isPacked : List ℕ → Bool
-isPacked x = eqb (length x) packedBytes && (eqb (getD x 0 0) 1 && leb (getD x 2 0) 1)
+isPacked x =
+    eqb (length x) packedBytes
+    && (eqb (getD x 0 0) 1 && (leb (getD x 2 0) 1 && (leb (getD x 9 0) 1 && (eqb (getD x 10 0) 0 && eqb (getD x 11 0) 0))))
 
 -- the tally and the session that such bytes stand for
 unfoldable pub tallyIn : List ℕ → Tally
 tallyIn x =
     record {
       phase = getD x 1 0;
-      told = valueAt 4 8 x;
+      told = record { kind = getD x 8 0; barred = eqb (getD x 9 0) 1 };
       letter = eqb (getD x 2 0) 1;
       code = getD x 3 0;
       accepted = totalsAt 20 x;
@@ -114,7 +121,6 @@ pub record TakenIn (x p : List ℕ) (l : Lists) (t : List ℕ) (r : Outcome) (x�
 
 -- every number fits the type of its field, as in each tally and each session that code holds
 pub record TallyFits (c : Tally) (held : ℕ) : Type 0 where
-  pub told : c .told < 4294967296
   pub acceptedCount : c .accepted .count < 18446744073709551616
   pub acceptedSum : c .accepted .sum < 18446744073709551616
   pub refusedCount : c .refused .count < 18446744073709551616
@@ -129,9 +135,20 @@ pub record Fits (s : Session) : Type 0 where
   pub tally : TallyFits (s .tally) (s .fill)
   pub held : length (s .held) ≡ longest
 
--- a tally and how many bytes are held, over their places
+-- a tally's numbers and how many bytes are held, over their places; and the identifier
+unfoldable pub countsOver : Tally → ℕ → List ℕ → List ℕ
+countsOver c fill x = over (over (over x 1 (flags c)) 8 (toldBytes (c .told))) 20 (eights (counts c fill))
+
 unfoldable pub tallyOver : Tally → ℕ → List ℕ → List ℕ
-tallyOver c fill x = over (over (over (over x 1 (flags c)) 8 (little 4 (c .told))) 20 (eights (counts c fill))) 68 (c .id)
+tallyOver c fill x = over (countsOver c fill x) 68 (c .id)
+
+pub record CountsPut (c : Tally) (fill : ℕ) (x x′ : List ℕ) : Type 0 where
+  pub bytes : x′ ≡ countsOver c fill x
+  pub fits : TallyFits c fill
+
+-- where the head was read, by the phase in byte 1, the identifier stands in its place
+pub record Named (c : Tally) (x : List ℕ) : Type 0 where
+  pub stands : (getD x 1 0 ≡ 0 → ⊥) → take 25 (drop 68 x) ≡ c .id
 
 pub record TallyPut (c : Tally) (fill : ℕ) (x x′ : List ℕ) : Type 0 where
   pub bytes : x′ ≡ tallyOver c fill x

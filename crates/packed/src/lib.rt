@@ -17,10 +17,13 @@ ghost use Rattle.packed.specs.Packed.{
   unpacked,
   PackedAs,
   TakenIn,
+  CountsPut,
+  Named,
   TallyPut,
   SteppedIn,
 };
 use frame::Tally;
+use frame::Told;
 use frame::Totals;
 use judge::Session;
 use judge::Step;
@@ -57,18 +60,31 @@ fn put_eights(out: &mut [u8], at: usize, numbers: &[u64])
     }
 }
 
-// A tally and how many bytes are held, in their places.
-fn put_tally(t: Tally, fill: usize, out: &mut [u8])
+// A tally's numbers and how many bytes are held, in their places.
+fn put_counts(t: Tally, fill: usize, out: &mut [u8])
     requires { ⌜ length (now out) ≡ packedBytes ⌝ }
-    ensures { λ _. ⌜ TallyPut t fill (now (out .entry)) (now (out .exit)) ⌝ }
+    ensures { λ _. ⌜ CountsPut t fill (now (out .entry)) (now (out .exit)) ⌝ }
 {
     let a = t.accepted;
     let r = t.refused;
-    let id = t.id;
+    let told = t.told;
     text::put_at(out, 1, &[t.phase, t.letter as u8, t.code]);
-    put_little(out, 8, 4, t.told as u64);
+    text::put_at(out, 8, &[told.kind, told.barred as u8, 0, 0]);
     let numbers = [a.count, a.sum, r.count, r.sum, t.zeros, fill as u64];
     put_eights(out, 20, &numbers);
+}
+
+// A tally over the one before it, whose phase byte 1 tells: once the head was read, the identifier stands in its place already.
+fn put_tally(t: Tally, fill: usize, out: &mut [u8])
+    requires { ⌜ (length (now out) ≡ packedBytes) × Named t (now out) ⌝ }
+    ensures { λ _. ⌜ TallyPut t fill (now (out .entry)) (now (out .exit)) ⌝ }
+{
+    let read = out[1] != 0;
+    put_counts(t, fill, out);
+    if read {
+        return;
+    }
+    let id = t.id;
     text::put_at(out, 68, &id);
 }
 
@@ -80,11 +96,13 @@ pub fn pack(s: Session, out: &mut [u8]) -> bool
         return false;
     }
     let t = s.tally;
+    let id = t.id;
     let held = s.held;
     text::put_at(out, 0, &[1]);
     put_little(out, 4, 4, s.day as u64);
     put_little(out, 12, 8, s.room as u64);
-    put_tally(t, s.fill, out);
+    put_counts(t, s.fill, out);
+    text::put_at(out, 68, &id);
     text::put_at(out, 93, &held);
     true
 }
@@ -103,14 +121,14 @@ fn number_at(x: &[u8], at: usize, w: usize) -> u64
     n
 }
 
-// The bytes are those of a session: their number, the mark, a letter that is 0 or 1.
+// The bytes are those of a session: their number, the mark, a letter and a bar that are 0 or 1, and the two zeros.
 fn is_packed(x: &[u8]) -> bool
     ensures { λ r. ⌜ r ≡ isPacked (now (x .entry)) ⌝ }
 {
     if x.len() != BYTES {
         return false;
     }
-    (x[0] == 1) & (x[2] <= 1)
+    (x[0] == 1) & ((x[2] <= 1) & ((x[9] <= 1) & ((x[10] == 0) & (x[11] == 0))))
 }
 
 // The 25 bytes of the identifier.
@@ -160,9 +178,13 @@ fn tally_in(x: &[u8]) -> Tally
     let accepted = totals_at(x, 20);
     let refused = totals_at(x, 36);
     let id = id_in(x);
+    let told = Told {
+        kind: x[8],
+        barred: x[9] == 1,
+    };
     Tally {
         phase: x[1],
-        told: number_at(x, 8, 4) as u32,
+        told: told,
         letter: x[2] == 1,
         code: x[3],
         accepted: accepted,
@@ -181,9 +203,13 @@ fn session_in(x: &[u8]) -> Session
     let refused = totals_at(x, 36);
     let id = id_in(x);
     let held = held_in(x);
+    let told = Told {
+        kind: x[8],
+        barred: x[9] == 1,
+    };
     let tally = Tally {
         phase: x[1],
-        told: number_at(x, 8, 4) as u32,
+        told: told,
         letter: x[2] == 1,
         code: x[3],
         accepted: accepted,
@@ -214,34 +240,53 @@ pub fn unpack(x: &[u8]) -> Session
 }
 
 // The session in the bytes takes a piece. The bytes held are worked on where they stand; nothing else of it is written.
-fn step_in(session: &mut [u8], bytes: &[u8], banks: &[u32], known: &[u8], table: &mut [u8]) -> Step
+fn step_in(
+    session: &mut [u8],
+    bytes: &[u8],
+    banks: &[u32],
+    known: &[u8],
+    barred: &[u32],
+    table: &mut [u8],
+) -> Step
     requires { ⌜ length (now session) ≡ packedBytes ⌝ }
-    ensures { λ r. ⌜ SteppedIn (now (session .entry)) (now (bytes .entry)) (listed (now (banks .entry)) (now (known .entry))) (now (table .entry))
-        r (now (session .exit)) (now (table .exit)) ⌝ }
+    ensures { λ r. ⌜ SteppedIn (now (session .entry)) (now (bytes .entry)) (listed (now (banks .entry)) (now (known .entry)) (now (barred .entry)))
+        (now (table .entry)) r (now (session .exit)) (now (table .exit)) ⌝ }
 {
     let day = number_at(session, 4, 4) as u32;
     let room = number_at(session, 12, 8) as usize;
     let tally = tally_in(session);
     let fill = number_at(session, 60, 8) as usize;
     let held = &mut session[93..];
-    judge::take_lent(day, room, tally, fill, held, bytes, banks, known, table)
+    judge::take_lent(
+        day,
+        room,
+        tally,
+        fill,
+        held,
+        bytes,
+        banks,
+        known,
+        barred,
+        table,
+    )
 }
 
-// A piece is taken where the session stands as bytes: refusals 5, 2, 3, 4. A refusal leaves session and table as they were.
+// A piece is taken where the session stands as bytes: refusals 5, 2, 3, 15, 4. A refusal leaves session and table as they were.
 pub fn take(
     session: &mut [u8],
     bytes: &[u8],
     banks: &[u32],
     known: &[u8],
+    barred: &[u32],
     table: &mut [u8],
 ) -> Outcome
-    ensures { λ r. ⌜ TakenIn (now (session .entry)) (now (bytes .entry)) (listed (now (banks .entry)) (now (known .entry))) (now (table .entry))
-        r (now (session .exit)) (now (table .exit)) ⌝ }
+    ensures { λ r. ⌜ TakenIn (now (session .entry)) (now (bytes .entry)) (listed (now (banks .entry)) (now (known .entry)) (now (barred .entry)))
+        (now (table .entry)) r (now (session .exit)) (now (table .exit)) ⌝ }
 {
     if !is_packed(session) {
         return Outcome::Refused(Refusal::Session);
     }
-    let step = step_in(session, bytes, banks, known, table);
+    let step = step_in(session, bytes, banks, known, barred, table);
     let t = step.tally;
     let o = step.outcome;
     match o {

@@ -74,7 +74,7 @@ module _ (l : Lent) (m : List ℕ) (p : Particulars) where
   abbrev agrees : Closing → Bool
   agrees k = countsRight (saying (l .day) (field 10 34 m) p k) (cond (eqb (k .code) 0) (map (λ f. f .code) fs) [])
 
-  agrees-counted : messageCode R m ≡ 0 → agrees (counted (toldBy R m) fs (identifier R m)) ≡ true
+  agrees-counted : messageCode R m ≡ 0 → agrees (counted (toldBy R m .kind) fs (identifier R m)) ≡ true
   unfolding countsRight
   agrees-counted z =
       all-three _ _ _
@@ -82,7 +82,7 @@ module _ (l : Lent) (m : List ℕ) (p : Particulars) where
       (eq-eqb (length (refused fs)) (othersIn (map (λ f. f .code) fs)) (others-found fs))
       (lt-ltb 0 (length (accepted fs) + length (refused fs)) (omega (arith, all-items fs, some-item z)))
 
-  agrees-blank : eqb (messageCode R m) 0 ≡ false → agrees (blank (toldBy R m) (messageCode R m) (identifier R m)) ≡ true
+  agrees-blank : eqb (messageCode R m) 0 ≡ false → agrees (blank (toldBy R m .kind) (messageCode R m) (identifier R m)) ≡ true
   unfolding countsRight
   agrees-blank q = rw q
 
@@ -91,7 +91,7 @@ module _ (l : Lent) (m : List ℕ) (p : Particulars) where
   counts-right o = ap agrees (verdict-is l room m o) ∙ go (eqb (messageCode R m) 0) refl
     where
       go : (z : Bool) → eqb (messageCode R m) 0 ≡ z
-          → agrees (cond z (counted (toldBy R m) fs (identifier R m)) (blank (toldBy R m) (messageCode R m) (identifier R m))) ≡ true
+          → agrees (cond z (counted (toldBy R m .kind) fs (identifier R m)) (blank (toldBy R m .kind) (messageCode R m) (identifier R m))) ≡ true
       go true q = agrees-counted (eqb-true (messageCode R m) 0 q)
       go false q = agrees-blank q
 

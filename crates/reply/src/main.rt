@@ -1,6 +1,6 @@
 // Writes the STATUS reply to the message on standard input: reply DUPLICATE NUMBER TIME. The clearing day and the lists stand in the
-// files `day`, `banks` and `known` of the folder where it runs. Refusals and wrong arguments go to standard error (01, Calls and their
-// answers; Examples).
+// files `day`, `banks` and `known` of the folder where it runs; its barred list is empty (02 #105). Refusals and wrong arguments go to
+// standard error (01, Calls and their answers; Examples).
 use console::Argument;
 use console::number_of;
 use console::put;
@@ -22,7 +22,7 @@ const MESSAGE: usize = Session::HEAD + 2 + (Session::ITEM + 2) * (Session::MOST 
 // The longest reply: 104 bytes of head and foot, and 65 for each of as many references as a table has codes.
 const REPLY: usize = 104 + 65 * Session::MOST;
 
-// The message is read, and the reply written.
+// The message is read, and the reply written, with no bank barred.
 fn answer(
     day: u32,
     banks: &[u32],
@@ -32,7 +32,7 @@ fn answer(
     out: &mut [u8],
 ) {
     let n = io::read_full(STDIN_FILENO, message);
-    let a = status::reply::write(day, banks, known, &message[..n], p, out);
+    let a = status::reply::write(day, banks, known, &[], &message[..n], p, out);
     match a {
         Answer::Refused(r) => refuse(STDERR_FILENO, r),
         Answer::Written(n) => put(&out[..n]),

@@ -54,6 +54,7 @@ refusal-small refusal.Malformed = lit< tt
 refusal-small refusal.RequestList = lit< tt
 refusal-small refusal.Fedjel = lit< tt
 refusal-small refusal.Standing = lit< tt
+refusal-small refusal.BarredList = lit< tt
 
 small : (a : Answer) → answerNumber a < 100
 small answer.Accepted = lit< tt

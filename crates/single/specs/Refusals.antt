@@ -17,7 +17,7 @@ use Rattle.findings.specs.Answers.{fieldNumber, answerNumber}
 abbrev pub refusedNumber : Answer → ℕ
 refusedNumber a = cond (eqb (fieldNumber a) 0) (answerNumber a) 0
 
--- a single record: 1, 2, 3, 10
+-- a single record: 1, 2, 3, 10; it knows no bar, and the empty list that stands for the barred one is never refused (02, #105)
 abbrev pub singleRefusals : Lent → List ℕ → List Row
 singleRefusals l r =
     (1, not (isDate (l .day)))

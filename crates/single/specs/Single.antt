@@ -43,7 +43,8 @@ headAnswer e isListed known r = firstNamed (headTexts r ++ headRules e isListed 
 unfoldable pub itemAnswer : ℕ → ℕ → (ℕ → Bool) → ℕ → List ℕ → Answer
 itemAnswer kind e isListed k r = firstNamed (itemTexts r ++ itemRules kind e isListed k r)
 
--- the answer, with the kind and the place of an item: refusals 1, 2, 3 and 10 in this order; its length tells a head from an item
+-- the answer, with the kind and the place of an item: refusals 1, 2, 3 and 10 in this order; its length tells a head from an item. It knows no
+-- bar: the barred list that is lent to it is empty (02, #105)
 unfoldable pub singleAnswer : Lent → ℕ → ℕ → List ℕ → Answer
 singleAnswer l kind k r =
     cond (isDate (l .day))

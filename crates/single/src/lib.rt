@@ -1,5 +1,6 @@
 // The answer on a single head or item (01, Calls and their answers), and its number for a host in C (include/nshanvekh.h).
 ghost use mathlib.Core.Path.{_≡_};
+ghost use mathlib.Core.List.{[]};
 ghost use Prim.Native.Nat.{_+_, _*_, _≤_};
 ghost use lib.ListN.{length};
 ghost use Rattle.lists.specs.Banks.{foundIn};
@@ -181,14 +182,14 @@ fn item_alone(r: &[u8], k: u64, kind: u32, e: u32, banks: &[u32]) -> Answer
 }
 
 // The answer on a single head or item, without its ending: refusals 1, 2, 3 and 10 come first, in this order. An item is at place k of a
-// message of a kind, 1 for BESZED and any other number for ATUTAL; a head tells its kind itself (02, #101).
+// message of a kind, 1 for BESZED and any other number for ATUTAL; a head tells its kind itself (02, #101). It knows no bar (02, #105).
 pub fn answer(r: &[u8], k: u64, kind: u32, e: u32, banks: &[u32], known: &[u8]) -> Answer
-    ensures { λ a. ⌜ a ≡ singleAnswer (lent e (now (banks .entry)) (now (known .entry))) kind k (now (r .entry)) ⌝ }
+    ensures { λ a. ⌜ a ≡ singleAnswer (lent e (now (banks .entry)) (now (known .entry)) []) kind k (now (r .entry)) ⌝ }
 {
     if !calendar::is_date(e) {
         return Answer::Refused(Refusal::NotADay);
     }
-    match lent::list_refused(banks, known) {
+    match lent::list_refused(banks, known, &[]) {
         Outcome::Refused(why) => Answer::Refused(why),
         Outcome::Done => {
             if r.len() == frame::HEAD {

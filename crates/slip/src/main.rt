@@ -1,5 +1,6 @@
 // Prints the slip of the message on standard input. The clearing day and the lists stand in the files `day`, `banks` and `known` of
-// the folder where it runs (01, Examples).
+// the folder where it runs (01, Examples); its barred list is empty (02 #105).
+ghost use mathlib.Core.List.{[]};
 ghost use lib.ListN.{take};
 ghost use Rattle.io.specs.Counts.{Counts};
 ghost use Rattle.lent.specs.Lent.{listed};
@@ -22,7 +23,7 @@ struct Fed {
 
 // The next piece of the message, as large as the space: what was read stands at the front of the space, and all of it is fed.
 fn read_piece(t: Taken, space: &mut [u8], banks: &[u32], known: &[u8], table: &mut [u8]) -> Fed
-    ensures { λ r. ⌜ FedAs t (take (r .length) (now (space .exit))) (listed (now (banks .entry)) (now (known .entry)))
+    ensures { λ r. ⌜ FedAs t (take (r .length) (now (space .exit))) (listed (now (banks .entry)) (now (known .entry)) [])
         (now (table .entry)) (r .next) (now (table .exit)) ⌝ }
 {
     let n = io::read_full(STDIN_FILENO, space);
@@ -41,7 +42,7 @@ fn read_message(
     known: &[u8],
     table: &mut [u8],
 ) -> Taken
-    ensures { λ r. ⌜ FedBy start (listed (now (banks .entry)) (now (known .entry))) (now (table .entry)) r (now (table .exit)) ⌝ }
+    ensures { λ r. ⌜ FedBy start (listed (now (banks .entry)) (now (known .entry)) []) (now (table .entry)) r (now (table .exit)) ⌝ }
 {
     let mut t = start;
     let mut turns = u64::MAX;
@@ -59,7 +60,7 @@ fn read_message(
 
 // The message is judged with what the files say; what is to be printed stands at the front of the output.
 fn judged(out: &mut [u8; OUTPUT], day: u32, banks: &[u32], known: &[u8]) -> usize
-    ensures { λ r. ⌜ TextFor (answerBy day zeros (listed (now (banks .entry)) (now (known .entry)))) (now (out .entry)) r (now (out .exit)) ⌝ }
+    ensures { λ r. ⌜ TextFor (answerBy day zeros (listed (now (banks .entry)) (now (known .entry)) [])) (now (out .entry)) r (now (out .exit)) ⌝ }
 {
     let mut table = [0u8; Session::MOST];
     let mut space = io::large_buffer();

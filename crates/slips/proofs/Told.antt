@@ -78,7 +78,7 @@ module _ {day banks known list : List ℕ} {g : Given} {list′ : List ℕ} (w :
 
     -- and the message by what they say
     pub by-files : {x : List ℕ} {r : ℕ} {y : List ℕ}
-        → TextFor (answerBy e zeros (listed (take n list′) known)) x r y → TextFor (slipBy day banks known) x r y
+        → TextFor (answerBy e zeros (listed (take n list′) known [])) x r y → TextFor (slipBy day banks known) x r y
     unfolding printedBy
     by-files t =
         record {

@@ -13,7 +13,7 @@ use Rattle.base.proofs.Every.{both}
 use Rattle.digits.specs.Digits.{numberOf, figures}
 use Rattle.calendar.specs.Calendar.{leap, isDate}
 use Rattle.calendar.specs.DateField.{dateField}
-use Rattle.lent.specs.Lent.{Lists, Lent, listRefused}
+use Rattle.lent.specs.Lent.{Lists, Lent, listed, listRefused}
 use Rattle.lists.specs.Banks.{isBankList}
 use Rattle.lists.specs.Known.{isKnownList}
 use Rattle.frame.specs.Records.{ended}
@@ -32,7 +32,7 @@ use Rattle.judge.proofs.Ranges.{kept-run, kept-session, opened-in-range, taken-
 use Rattle.judge.proofs.Great.{Passing, great}
 use Rattle.files.specs.declared.Given.the-variants as files
 use Rattle.files.specs.declared.Given.the-variants.{Files}
-use Rattle.files.specs.Files.{longest, dayOf, isBanks, isKnownFile, givenBy}
+use Rattle.files.specs.Files.{longest, dayOf, numbers, isBanks, isKnownFile, givenBy}
 use Rattle.lines.specs.Slip.{lineEnd, places, slipOf}
 use Rattle.slips.specs.Message.{fedOf, tableFed, closedText, answerOf, fedAll, judgedText, byFiles, lentBy, printed, printedBy}
 use Rattle.files.proofs.Says.{day-date, banks-list}
@@ -114,9 +114,10 @@ cases false false w n m f g h = refl
 cases false true false n m f g h = refl
 cases false true true n m f g h = h refl refl refl
 
-lists-pass : (l : Lists) → isBankList (l .banks) ≡ true → isKnownList (l .known) ≡ true → listRefused l ≡ Done
+-- an empty barred list is never refused
+lists-pass : (banks known : List ℕ) → isBankList banks ≡ true → isKnownList known ≡ true → listRefused (listed banks known []) ≡ Done
 unfolding listRefused
-lists-pass l b k = rw (b, k)
+lists-pass banks known b k = rw (b, k)
 
 -- for all files, lists and tables that are lent, and all pieces
 pub any-pieces : (day banks known : List ℕ) (room : ℕ) (table : List ℕ) (ps : List (List ℕ))
@@ -128,7 +129,7 @@ any-pieces day banks known room table ps =
     (λ e. judgedText (judgedOf (lentBy e banks known) table (joined ps)))
     (λ z v w.
     let l = lentBy (dayOf day) banks known in
-    let g = lists-pass (l .lists) (banks-list banks room v) (both (leb (length known) longest) (isKnownList known) w .1) in
+    let g = lists-pass (numbers banks) known (banks-list banks room v) (both (leb (length known) longest) (isKnownList known) w .1) in
     by-pieces l table (record { day = day-date day z; lists = g }) ps)
 
 -- 01's example, with the line of the kind (02, #101): for an empty message, day 20200310 and empty lists, in a table of any length

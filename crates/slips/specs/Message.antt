@@ -74,9 +74,9 @@ abbrev pub byFiles : Given → (ℕ → List ℕ) → List ℕ
 byFiles (Files day n) f = f day
 byFiles (Refused r) f = refusalLine r
 
--- what is lent by what the files say
+-- what is lent by what the files say; the slip's barred list is empty (02 #105)
 abbrev pub lentBy : ℕ → List ℕ → List ℕ → Lent
-lentBy e banks known = lent e (numbers banks) known
+lentBy e banks known = lent e (numbers banks) known []
 
 -- what the program prints for its three files and the uncut message, with a list and a table that it lends
 unfoldable pub printed : List ℕ → List ℕ → List ℕ → ℕ → List ℕ → List ℕ → List ℕ

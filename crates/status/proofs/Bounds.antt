@@ -15,6 +15,7 @@ use Rattle.calendar.proofs.Dates.{parts}
 use Rattle.lent.specs.Lent.{Lent}
 use Rattle.frame.specs.declared.Found.{Found}
 use Rattle.frame.specs.declared.Tally.{Tally}
+use Rattle.frame.specs.declared.Told.{Told}
 use Rattle.frame.specs.declared.Closing.{Closing}
 use Rattle.frame.specs.Records.{lengths, noId, headOf, itemsOf}
 use Rattle.frame.specs.Verdict.{Rules, blank, overflow, given, counted, findings, foundIn, messageCode, identifier, toldBy, overflows, verdict, tableAfter}
@@ -49,8 +50,8 @@ pub record Fits (k : Closing) : Type 0 where
   pub accepted : k .accepted .sum < 10 ^ 16
   pub refused : k .refused .sum < 10 ^ 16
 
-fits-blank : (told c : ℕ) (id : List ℕ) → c < 100 → Fits (blank told c id)
-fits-blank told c id h = record { code = h; counts = omega arith; accepted = lit< tt; refused = lit< tt }
+fits-blank : (kind c : ℕ) (id : List ℕ) → c < 100 → Fits (blank kind c id)
+fits-blank kind c id h = record { code = h; counts = omega arith; accepted = lit< tt; refused = lit< tt }
 
 one-of : (b : Bool) (k l : Closing) → Fits k → Fits l → Fits (cond b k l)
 one-of true k l f g = f
@@ -72,17 +73,17 @@ fits-closing c t v = go (eqb (c .phase) 4)
   where
     go : (b : Bool)
         → Fits (cond b overflow (given (cond (eqb (c .phase) 2)
-        (cond (c .letter) (blank (c .told) 36 (c .id)) (cond (eqb (c .code) 0) (numbers c) (blank (c .told) (c .code) (c .id))))
-        (blank (c .told) 26 (c .id)))) .closing)
+        (cond (c .letter) (blank (c .told .kind) 36 (c .id)) (cond (eqb (c .code) 0) (numbers c) (blank (c .told .kind) (c .code) (c .id))))
+        (blank (c .told .kind) 26 (c .id)))) .closing)
     go true = fits-blank 0 0 noId (lit< tt)
     go false =
         one-of (eqb (c .phase) 2) _ _
-        (one-of (c .letter) _ _ (fits-blank (c .told) 36 (c .id) (lit< tt))
-        (one-of (eqb (c .code) 0) _ _ (fits-numbers c t v) (fits-blank (c .told) (c .code) (c .id) (omega (arith, v .code)))))
-        (fits-blank (c .told) 26 (c .id) (lit< tt))
+        (one-of (c .letter) _ _ (fits-blank (c .told .kind) 36 (c .id) (lit< tt))
+        (one-of (eqb (c .code) 0) _ _ (fits-numbers c t v) (fits-blank (c .told .kind) (c .code) (c .id) (omega (arith, v .code)))))
+        (fits-blank (c .told .kind) 26 (c .id) (lit< tt))
 
 module _ (l : Lent) where
-  codes-in : (told k : ℕ) (rs : List (List ℕ)) → Codes (map (λ f. f .code) (findings (rules l) told k rs))
+  codes-in : (told : Told) (k : ℕ) (rs : List (List ℕ)) → Codes (map (λ f. f .code) (findings (rules l) told k rs))
   unfolding findings
   codes-in told k [] = tt
   codes-in told k (r ∷ rs) = (omega (arith, sound l .code told k r), codes-in told (k + 1) rs)
@@ -123,7 +124,9 @@ module _ (l : Lent) (t m : List ℕ) where
   counted-few = go (overflows R t m) refl (eqb (messageCode R m) 0)
     where
       w : Bool → Bool → Closing
-      w o z = cond o overflow (given (cond z (counted (toldBy R m) fs (identifier R m)) (blank (toldBy R m) (messageCode R m) (identifier R m)))) .closing
+      w o z =
+          cond o overflow (given (cond z (counted (toldBy R m .kind) fs (identifier R m)) (blank (toldBy R m .kind) (messageCode R m) (identifier R m))))
+          .closing
 
       go : (o : Bool) → overflows R t m ≡ o → (z : Bool)
           → (w o z .accepted .count + w o z .refused .count ≤ length fs) × (w o z .accepted .count + w o z .refused .count ≤ length t)
@@ -155,7 +158,7 @@ module _ (l : Lent) (t m : List ℕ) where
   module _ (o : overflows R t m ≡ false) where
     -- the numbers where the table had a byte for each item
     abbrev w : Bool → Closing
-    w z = cond z (counted (toldBy R m) fs (identifier R m)) (blank (toldBy R m) (messageCode R m) (identifier R m))
+    w z = cond z (counted (toldBy R m .kind) fs (identifier R m)) (blank (toldBy R m .kind) (messageCode R m) (identifier R m))
 
     pub verdict-is : verdict R t m .closing ≡ w (eqb (messageCode R m) 0)
     unfolding verdict

@@ -5,6 +5,7 @@ pub mod Bounds
 pub mod Referred
 pub mod Judging
 pub mod SessionVerdict
+pub mod Barred
 pub mod Granted
 pub mod Refusals
 pub mod CoverWriting

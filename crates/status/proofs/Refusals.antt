@@ -41,7 +41,7 @@ use Rattle.status.specs.Refusals.{replyRefusals, fedstaRefusals}
 written : (n : ℕ) → ByRows replyNumber (Written n) []
 written n = record { is = refl }
 
--- a reply: 1, 2, 3, 6, 7, 8, 9
+-- a reply: 1, 2, 3, 15, 6, 7, 8, 9
 pub replied : (l : Lent) (m : List ℕ) (p : Particulars) (out : List ℕ) → replyNumber (answer l m p out) ≡ firstGiven (replyRefusals l m p out)
 unfolding answer
 replied l m p out =

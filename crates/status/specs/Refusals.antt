@@ -19,7 +19,7 @@ use Rattle.status.specs.declared.reply.Particulars.{Particulars}
 use Rattle.status.specs.Reply.{hasAddress, areParticulars, room, reply}
 use Rattle.status.specs.CoverStatus.{isCovered, areCoverParticulars}
 
--- a reply: 1, 2, 3, 6, 7, 8, 9
+-- a reply: 1, 2, 3, 15, 6, 7, 8, 9
 abbrev pub replyRefusals : Lent → List ℕ → Particulars → List ℕ → List Row
 replyRefusals l m p out =
     (1, not (isDate (l .day)))

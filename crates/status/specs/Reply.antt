@@ -78,7 +78,7 @@ module _ (l : Lent) (m : List ℕ) where
   unfoldable pub reply : Particulars → List ℕ
   reply p = written (said p) referred (itemsOf lengths m)
 
-  -- refusals 1, 2, 3, 6, 7, 8, 9 in this order; else the length
+  -- refusals 1, 2, 3, 15, 6, 7, 8, 9 in this order; else the length
   unfoldable pub answer : Particulars → List ℕ → Answer
   answer p out =
       cond (isDate (l .day))

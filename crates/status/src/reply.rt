@@ -116,19 +116,21 @@ fn said(day: u32, id: [u8; 25], p: Particulars, c: frame::Closing) -> Status
     }
 }
 
-// The reply to the whole message goes to the front of the output: refusals 1, 2, 3, 6, 7, 8, 9. The answer is its length.
+// The reply to the whole message goes to the front of the output: refusals 1, 2, 3, 15, 6, 7, 8, 9. The answer is its length.
 pub fn write(
     day: u32,
     banks: &[u32],
     known: &[u8],
+    barred: &[u32],
     message: &[u8],
     particulars: Particulars,
     out: &mut [u8],
 ) -> Answer
-    ensures { λ r. ⌜ Replied (lent day (now (banks .entry)) (now (known .entry))) (now (message .entry)) particulars (now (out .entry)) r (now (out .exit)) ⌝ }
+    ensures { λ r. ⌜ Replied (lent day (now (banks .entry)) (now (known .entry)) (now (barred .entry))) (now (message .entry)) particulars
+        (now (out .entry)) r (now (out .exit)) ⌝ }
 {
     let mut codes = [0u8; Session::MOST];
-    let j = message::judge(day, banks, known, &mut codes, message);
+    let j = message::judge(day, banks, known, barred, &mut codes, message);
     let o = j.outcome;
     let c = j.closing;
     match o {

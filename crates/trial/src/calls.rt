@@ -27,19 +27,21 @@ fn call(
     day: u32,
     banks: &[u32],
     known: &[u8],
+    barred: &[u32],
     session: &mut [u8],
     table: &mut [u8],
     numbers: &mut [u64],
     id: &mut [u8],
 ) -> u32 {
     match command {
-        b'j' => nshanvekh::nsh_judge(text, day, banks, known, table, numbers, id),
+        b'j' => nshanvekh::nsh_judge(text, day, banks, known, barred, table, numbers, id),
         b'p' => by_pieces(
             text,
             lengths,
             day,
             banks,
             known,
+            barred,
             session,
             table,
             numbers,
@@ -47,7 +49,7 @@ fn call(
         ),
         b'r' => nshanvekh::nsh_read_status(text, table, numbers, id),
         b'o' => nshanvekh::nsh_open(day, table, session),
-        b't' => nshanvekh::nsh_piece(session, text, banks, known, table),
+        b't' => nshanvekh::nsh_piece(session, text, banks, known, barred, table),
         _ => nshanvekh::nsh_close(session, numbers, id),
     }
 }
@@ -60,6 +62,7 @@ fn shown(
     g: Given,
     banks: &[u32],
     known: &[u8],
+    barred: &[u32],
     session: &mut [u8],
     table: &mut [u8],
     numbers: &mut [u64],
@@ -74,6 +77,7 @@ fn shown(
         g.day,
         banks,
         known,
+        barred,
         own,
         table,
         numbers,
@@ -100,6 +104,7 @@ pub(crate) fn called(
     g: Given,
     banks: &[u32],
     known: &[u8],
+    barred: &[u32],
     session: &mut Memory,
 ) {
     let mut table = [255u8; TABLE];
@@ -117,6 +122,7 @@ pub(crate) fn called(
         g,
         banks,
         known,
+        barred,
         session,
         &mut table[0..length],
         &mut numbers[0..count],
@@ -137,12 +143,22 @@ pub(crate) fn stepped(
     g: Given,
     banks: &[u32],
     known: &[u8],
+    barred: &[u32],
     session: &mut Memory,
 ) {
     let before = *session;
     let last = least(field(r, 11, 15) as usize, text.len());
     let first = least(field(r, 6, 10) as usize, last);
-    called(command, &text[first..last], r, g, banks, known, session);
+    called(
+        command,
+        &text[first..last],
+        r,
+        g,
+        banks,
+        known,
+        barred,
+        session,
+    );
     put_next(same_session(before, session));
 }
 

@@ -35,6 +35,7 @@ fn in_two(
     day: u32,
     banks: &[u32],
     known: &[u8],
+    barred: &[u32],
 ) -> Left {
     let mut session = [0u8; packed::BYTES];
     let mut table = [255u8; 25];
@@ -48,6 +49,7 @@ fn in_two(
         day,
         banks,
         known,
+        barred,
         &mut session,
         &mut table[0..end],
         &mut numbers,
@@ -92,10 +94,19 @@ fn same(a: Left, b: Left) -> u64 {
 }
 
 // 1 where the pieces of each cut give what is given first.
-fn agree(first: Left, message: &[u8], length: usize, day: u32, banks: &[u32], known: &[u8]) -> u64 {
+fn agree(
+    first: Left,
+    message: &[u8],
+    length: usize,
+    day: u32,
+    banks: &[u32],
+    known: &[u8],
+    barred: &[u32],
+) -> u64 {
     let mut cut = 0;
     while cut <= message.len() {
-        if same(first, in_two(message, cut, length, day, banks, known)) == 0 {
+        let next = in_two(message, cut, length, day, banks, known, barred);
+        if same(first, next) == 0 {
             return 0;
         }
         cut += 1;
@@ -111,12 +122,19 @@ fn put_left(n: u32, numbers: [u64; 7], id: [u8; 25], table: [u8; 25], length: us
 }
 
 // What the message gives by an empty piece and all of it, and 1 where each cut gives that. The table has the line's length, at most 25.
-pub(crate) fn each_cut(message: &[u8], r: &[u8], day: u32, banks: &[u32], known: &[u8]) {
+pub(crate) fn each_cut(
+    message: &[u8],
+    r: &[u8],
+    day: u32,
+    banks: &[u32],
+    known: &[u8],
+    barred: &[u32],
+) {
     let length = field(r, 0, 5) as usize;
-    let first = in_two(message, 0, length, day, banks, known);
+    let first = in_two(message, 0, length, day, banks, known, barred);
     let numbers = first.numbers;
     let id = first.id;
     let table = first.table;
     put_left(first.number, numbers, id, table, length);
-    put_next(agree(first, message, length, day, banks, known));
+    put_next(agree(first, message, length, day, banks, known, barred));
 }

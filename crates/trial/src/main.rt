@@ -40,6 +40,9 @@ const TEXT: usize = 8192;
 
 const REPLY: usize = 650200;
 
+// Room for a barred list: each code (02 #105), and one number more.
+const BARRED: usize = 1001;
+
 // The text is tried with what is given, the lists, and the line's own words r.
 fn tried(
     command: u8,
@@ -48,20 +51,21 @@ fn tried(
     g: Given,
     banks: &[u32],
     known: &[u8],
+    barred: &[u32],
     out: &mut [u8],
     session: &mut Memory,
 ) {
     match command {
         b'j' => {
             let mut own = [0u8; SESSION];
-            called(b'j', text, r, g, banks, known, &mut own);
+            called(b'j', text, r, g, banks, known, barred, &mut own);
             put(b" p");
-            called(b'p', text, r, g, banks, known, &mut own);
-            replied(text, r, g, banks, known, out, &mut own);
+            called(b'p', text, r, g, banks, known, barred, &mut own);
+            replied(text, r, g, banks, known, barred, out, &mut own);
         }
-        b'w' => replied(text, r, g, banks, known, out, session),
-        b'r' => called(command, text, r, g, banks, known, session),
-        b'a' => cuts::each_cut(text, r, g.day, banks, known),
+        b'w' => replied(text, r, g, banks, known, barred, out, session),
+        b'r' => called(command, text, r, g, banks, known, barred, session),
+        b'a' => cuts::each_cut(text, r, g.day, banks, known, barred),
         b's' => {
             let place = field(r, 0, 10);
             let kind = field(r, 11, 21);
@@ -70,7 +74,7 @@ fn tried(
         b'f' => slip::print(text, r),
         b'd' => covers::judged(text, r, g),
         b'q' => covers::written(text, r, g, out),
-        _ => stepped(command, text, r, g, banks, known, session),
+        _ => stepped(command, text, r, g, banks, known, barred, session),
     }
 }
 
@@ -92,7 +96,9 @@ fn answered(
     session: &mut Memory,
 ) {
     let mut list = [0u32; 40];
+    let mut codes = [0u32; BARRED];
     let count = fill(&mut list, rest(s, g.banks));
+    let barred = fill(&mut codes, rest(s, g.barred));
     let name = [command];
     put(&name);
     tried(
@@ -102,6 +108,7 @@ fn answered(
         g,
         &list[..count],
         rest(s, g.known),
+        &codes[..barred],
         out,
         session,
     );
@@ -138,6 +145,7 @@ fn set(command: u8, r: &[u8], start: usize, g: Given, base: &mut [u8]) -> Given 
         b'E' => next.day = field(r, 0, 8),
         b'B' => next.banks = start,
         b'K' => next.known = start,
+        b'A' => next.barred = start,
         b'P' => {
             if r.len() > 0 {
                 next.duplicate = r[0];
@@ -196,6 +204,7 @@ fn lines(s: &[u8], base: &mut [u8], out: &mut [u8], session: &mut Memory) {
         day: 0,
         banks: s.len(),
         known: s.len(),
+        barred: s.len(),
         base: 0,
         sizes: 111,
         duplicate: 0,

@@ -26,6 +26,7 @@ fn fed(
     lengths: &[u8],
     banks: &[u32],
     known: &[u8],
+    barred: &[u32],
     session: &mut [u8],
     table: &mut [u8],
 ) -> u32 {
@@ -34,7 +35,7 @@ fn fed(
     let mut i = 0;
     while at + i < message.len() + count {
         let end = piece_end(lengths, count, i, at, message.len());
-        let n = nshanvekh::nsh_piece(session, &message[at..end], banks, known, table);
+        let n = nshanvekh::nsh_piece(session, &message[at..end], banks, known, barred, table);
         if n != 0 {
             return n;
         }
@@ -51,6 +52,7 @@ pub(crate) fn by_pieces(
     day: u32,
     banks: &[u32],
     known: &[u8],
+    barred: &[u32],
     session: &mut [u8],
     table: &mut [u8],
     numbers: &mut [u64],
@@ -60,7 +62,7 @@ pub(crate) fn by_pieces(
     if n != 0 {
         return n;
     }
-    let n = fed(message, lengths, banks, known, session, table);
+    let n = fed(message, lengths, banks, known, barred, session, table);
     if n != 0 {
         return n;
     }

@@ -30,6 +30,7 @@ fn written(
     g: Given,
     banks: &[u32],
     known: &[u8],
+    barred: &[u32],
     out: &mut [u8],
     numbers: &mut [u64],
 ) -> usize {
@@ -39,6 +40,7 @@ fn written(
         g.day,
         banks,
         known,
+        barred,
         g.duplicate,
         g.number,
         g.time,
@@ -56,6 +58,7 @@ fn read_back(
     g: Given,
     banks: &[u32],
     known: &[u8],
+    barred: &[u32],
     session: &mut Memory,
 ) {
     let end = least(n, out.len());
@@ -63,7 +66,7 @@ fn read_back(
     put_sums(reply);
     put_sums(&out[end..]);
     put(b" r");
-    called(b'r', reply, r, g, banks, known, session);
+    called(b'r', reply, r, g, banks, known, barred, session);
 }
 
 // The reply to the message is written and read back.
@@ -73,6 +76,7 @@ pub(crate) fn replied(
     g: Given,
     banks: &[u32],
     known: &[u8],
+    barred: &[u32],
     out: &mut [u8],
     session: &mut Memory,
 ) {
@@ -84,8 +88,9 @@ pub(crate) fn replied(
         g,
         banks,
         known,
+        barred,
         &mut out[0..room],
         &mut numbers[0..count],
     );
-    read_back(&out[0..room], n, r, g, banks, known, session);
+    read_back(&out[0..room], n, r, g, banks, known, barred, session);
 }

@@ -11,6 +11,7 @@ pub(crate) struct Given {
     pub(crate) day: u32,
     pub(crate) banks: usize,
     pub(crate) known: usize,
+    pub(crate) barred: usize,
     pub(crate) base: usize,
     pub(crate) sizes: u32,
     pub(crate) duplicate: u8,

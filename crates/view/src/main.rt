@@ -1,7 +1,7 @@
 // Shows the message on standard input record by record, for the support desk: each field by name, what is wrong with the record, and at
 // the end the verdict or the first break. With the word `faults` the records without a fault, a watch or a break are left out. The
-// clearing day and the lists stand in the files `day`, `banks` and `known` of the folder where it runs, as for the slip (01, Examples).
-// No contract can say what is written to a stream, so the functions have none.
+// clearing day and the lists stand in the files `day`, `banks` and `known` of the folder where it runs, as for the slip (01, Examples);
+// its barred list is empty (02 #105). No contract can say what is written to a stream, so the functions have none.
 mod breaks;
 mod lines;
 mod records;
@@ -17,6 +17,7 @@ use files::Given;
 use files::SPACE;
 use frame::Closing;
 use frame::Record;
+use frame::Told;
 use frame::Totals;
 use judge::Session;
 use lent::Outcome;
@@ -36,11 +37,11 @@ const FULL: usize = 61440;
 // It has room for one record more: fewer than 2,000 bytes, where each byte of an item is shown by four.
 const ROOM: usize = FULL + 4096;
 
-// A walk: how much of the output is filled, the kind that the head told, ATUTAL before it, what the items so far give, and whether it
+// A walk: how much of the output is filled, what the head told, ATUTAL and no bar before it, what the items so far give, and whether it
 // goes on.
 struct Walk {
     filled: usize,
-    kind: u32,
+    told: Told,
     count: u64,
     sum: u64,
     on: bool,
@@ -65,9 +66,10 @@ fn room(out: &[u8], filled: usize) -> usize {
 
 // The walk is over.
 fn ended(w: Walk, filled: usize) -> Walk {
+    let told = w.told;
     Walk {
         filled,
-        kind: w.kind,
+        told,
         count: w.count,
         sum: w.sum,
         on: false,
@@ -86,20 +88,21 @@ fn item(
     banks: &[u32],
     known: &[u8],
 ) -> Walk {
-    let kind = w.kind;
-    let f = items::item::found_in(r, k as u64, kind, day, banks);
+    let told = w.told;
+    let kind = told.kind as u32;
+    let f = items::item::found_in(r, k as u64, told, day, banks);
     let answer = single::number(single::answer(r, k as u64, kind, day, banks, known)) as usize;
     let filled = records::put_item(out, w.filled, r, k, kind, start, only, answer, f);
     Walk {
         filled: room(out, filled),
-        kind,
+        told,
         count: k as u64,
         sum: std::num::wrapping_add_u64(w.sum, f.amount),
         on: true,
     }
 }
 
-// The head is shown, and tells the kind.
+// The head is shown, and tells its kind; no bank is barred (02 #105).
 fn head(
     out: &mut [u8],
     r: &[u8],
@@ -109,10 +112,11 @@ fn head(
     banks: &[u32],
     known: &[u8],
 ) -> Walk {
-    let kind = heads::kind_of(r);
+    let told = heads::told_of(r, &[]);
+    let kind = told.kind as u32;
     Walk {
         filled: records::put_head(out, w.filled, r, kind, only, day, banks, known),
-        kind,
+        told,
         count: 0,
         sum: 0,
         on: true,
@@ -178,7 +182,10 @@ fn put_records(
 ) -> usize {
     let mut w = Walk {
         filled: 0,
-        kind: kinds::ATUTAL,
+        told: Told {
+            kind: 0,
+            barred: false,
+        },
         count: 0,
         sum: 0,
         on: true,
@@ -228,7 +235,7 @@ fn put_closing(out: &mut [u8], at: usize, k: Closing) -> usize {
 fn put_message(out: &mut [u8], message: &[u8], only: bool, day: u32, banks: &[u32], known: &[u8]) {
     let filled = put_records(out, message, only, day, banks, known);
     let mut table = [0u8; Session::MOST];
-    let j = message::judge(day, banks, known, &mut table, message);
+    let j = message::judge(day, banks, known, &[], &mut table, message);
     let o = j.outcome;
     let k = j.closing;
     match o {

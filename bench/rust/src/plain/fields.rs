@@ -92,6 +92,11 @@ pub fn is_listed(field: &[u8], banks: &[u32]) -> bool {
     satisfies(field) && number(field).is_some_and(|code| banks.binary_search(&(code as u32)).is_ok())
 }
 
+/// Eight digits, of which the first three are a code of the barred list (02, #105).
+pub fn is_barred(field: &[u8], barred: &[u32]) -> bool {
+    number(field).is_some_and(|code| barred.binary_search(&(code as u32 / 100_000)).is_ok())
+}
+
 /// Sixteen digits, or eight digits and eight spaces, with their check digit.
 pub fn is_account(field: &[u8]) -> bool {
     let (front, back) = field.split_at(8);

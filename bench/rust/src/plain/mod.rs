@@ -16,21 +16,31 @@ pub use records::Kind;
 pub use reply::{reply, Particulars};
 pub use session::{judge, Closing, Session};
 
-/// What the judge is lent beside the message: the bank list, ascending, and the known list, 25 bytes each.
+/// What the judge is lent beside the message: the bank list, ascending, the known list, 25 bytes each, and the barred list, bank codes of
+/// three digits, ascending (02, #105).
 #[derive(Clone, Copy)]
 pub struct Lists<'a> {
     pub banks: &'a [u32],
     pub known: &'a [u8],
+    pub barred: &'a [u32],
+}
+
+/// The list is strictly ascending, and no number of it is over the most.
+fn ascends_to(list: &[u32], most: u32) -> bool {
+    list.windows(2).all(|pair| pair[0] < pair[1]) && list.last().is_none_or(|&last| last <= most)
 }
 
 impl Lists<'_> {
+    /// Refusals 2, 3, 15.
     fn check(&self) -> Result<(), Refusal> {
-        let ascends = self.banks.windows(2).all(|pair| pair[0] < pair[1]);
-        if !ascends || self.banks.last().is_some_and(|&last| last > 99_999_999) {
+        if !ascends_to(self.banks, 99_999_999) {
             return Err(Refusal::BankList);
         }
         if self.known.len() % 25 != 0 {
             return Err(Refusal::KnownList);
+        }
+        if !ascends_to(self.barred, 999) {
+            return Err(Refusal::BarredList);
         }
         Ok(())
     }
@@ -50,4 +60,5 @@ pub enum Refusal {
     RequestList = 11,
     NotFedjel = 12,
     NoStanding = 13,
+    BarredList = 15,
 }

@@ -48,6 +48,8 @@ fn date(field: &[u8]) -> Option<u32> {
 
 pub struct Head {
     pub kind: Kind,
+    /// Its bank is barred, so that no item is accepted. BESZED knows no bar.
+    pub barred: bool,
     pub letter: bool,
     pub code: u8,
 }
@@ -56,6 +58,7 @@ pub fn judge_head<const QUICK: bool>(r: &[u8; HEAD], e: u32, lists: Lists) -> He
     let kind = Kind::of(r);
     Head {
         kind,
+        barred: kind == Kind::Atutal && is_barred(&r[34..42], lists.barred),
         letter: !is_text::<QUICK>(&r[69..174]),
         code: head_code::<QUICK>(r, kind, e, lists),
     }
@@ -113,7 +116,15 @@ pub struct Item {
     pub zero: bool,
 }
 
-pub fn judge_item<const QUICK: bool>(r: &[u8; ITEM], kind: Kind, place: u64, e: u32, banks: &[u32]) -> Item {
+/// Where the head's bank is barred, 14 is the code of every item (002 section 1.3.1; 02, #105).
+pub fn judge_item<const QUICK: bool>(
+    r: &[u8; ITEM],
+    kind: Kind,
+    barred: bool,
+    place: u64,
+    e: u32,
+    banks: &[u32],
+) -> Item {
     let amount = number(&r[16..26]);
     let fault = if &r[0..2] != b"02" {
         46
@@ -125,7 +136,11 @@ pub fn judge_item<const QUICK: bool>(r: &[u8; ITEM], kind: Kind, place: u64, e: 
     Item {
         letter: !is_text::<QUICK>(&r[50..249]),
         fault,
-        code: item_code::<QUICK>(r, kind, place, e, amount, banks),
+        code: if barred {
+            14
+        } else {
+            item_code::<QUICK>(r, kind, place, e, amount, banks)
+        },
         amount: amount.unwrap_or(0),
         zero: is_zero_account(&r[34..50]),
     }

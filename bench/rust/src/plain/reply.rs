@@ -54,7 +54,7 @@ fn put_foot<const QUICK: bool>(out: &mut [u8], closing: &Closing) {
     out[46..48].copy_from_slice(b"\r\n");
 }
 
-/// The reply to the whole message goes to the front of the output: refusals 1, 2, 3, 6, 7, 8, 9. The answer is its length.
+/// The reply to the whole message goes to the front of the output: refusals 1, 2, 3, 15, 6, 7, 8, 9. The answer is its length.
 pub fn reply<const QUICK: bool>(
     day: u32,
     lists: Lists,

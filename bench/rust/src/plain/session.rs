@@ -43,6 +43,8 @@ struct Tally<const QUICK: bool> {
     phase: Phase,
     /// ATUTAL until a head with its right ending was read.
     kind: Kind,
+    /// Whether the head's bank is barred, as the list said when the head was read.
+    barred: bool,
     letter: bool,
     code: u8,
     accepted: Totals,
@@ -91,6 +93,7 @@ impl<const QUICK: bool> Tally<QUICK> {
         let found = judge_head::<QUICK>(record, e, lists);
         self.phase = Phase::Items;
         self.kind = found.kind;
+        self.barred = found.barred;
         self.letter = found.letter;
         self.code = found.code;
         self.id.copy_from_slice(&record[9..34]);
@@ -102,7 +105,7 @@ impl<const QUICK: bool> Tally<QUICK> {
             self.phase = Phase::Overflow;
             return;
         };
-        let found = judge_item::<QUICK>(record, self.kind, before + 1, e, banks);
+        let found = judge_item::<QUICK>(record, self.kind, self.barred, before + 1, e, banks);
         *place = found.code;
         self.letter |= found.letter;
         self.fault(found.fault);
@@ -145,6 +148,7 @@ impl<const QUICK: bool> Session<QUICK> {
             tally: Tally {
                 phase: Phase::Head,
                 kind: Kind::Atutal,
+                barred: false,
                 letter: false,
                 code: 0,
                 accepted: Totals::default(),
@@ -156,7 +160,7 @@ impl<const QUICK: bool> Session<QUICK> {
         })
     }
 
-    /// Refusals 2, 3, 4.
+    /// Refusals 2, 3, 15, 4.
     pub fn take(&mut self, piece: &[u8], lists: Lists, table: &mut [u8]) -> Result<(), Refusal> {
         lists.check()?;
         if table.len() != self.room {
@@ -218,7 +222,7 @@ impl<const QUICK: bool> Session<QUICK> {
     }
 }
 
-/// A whole message: refusals 1, 4, 2, 3, 6.
+/// A whole message: refusals 1, 4, 2, 3, 15, 6.
 pub fn judge<const QUICK: bool>(day: u32, lists: Lists, table: &mut [u8], message: &[u8]) -> Result<Closing, Refusal> {
     let mut session = Session::<QUICK>::open(day, table)?;
     session.take(message, lists, table)?;

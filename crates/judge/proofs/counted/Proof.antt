@@ -22,7 +22,7 @@ returns c =
     let c1 = c .before .before in
     let c2 = c1 .before in
     let c3 = c2 .before in
-    let c4 = c3 .before .before .before .before .before .before .before in
+    let c4 = c3 .before .before .before .before .before .before in
     item-counted (c4 .args .tally) (c4 .args .f) (c3 .earlier .result) (c2 .more .result) (c1 .more2 .result) (c .one-more .result)
     (c3 .earlier .ensures) (c2 .more .ensures) (c1 .more2 .ensures) (c .one-more .ensures)
 

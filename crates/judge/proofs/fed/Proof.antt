@@ -44,7 +44,7 @@ module _ (c : tie.Start) (i : c .args .fill ≡ 0 → ⊥) where
 
 -- what is lent, and its rules
 abbrev given : tie.Start → Lent
-given c = lent (c .args .day) (c .args .banks .now) (c .args .known .now)
+given c = lent (c .args .day) (c .args .banks .now) (c .args .known .now) (c .args .barred .now)
 
 abbrev R : tie.Start → Rules
 R c = rules (given c)
@@ -54,7 +54,7 @@ ok c = sound (given c)
 
 -- the function's start, from the place after what its parameters tell
 abbrev start : tie.After-slice-known2 → tie.Start
-start c = c .before .before .before .before .before
+start c = c .before .before .before .before .before .before
 
 onward-requires : tie.Need-onward-requires
 onward-requires c κs = search needs

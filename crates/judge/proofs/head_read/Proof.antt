@@ -9,20 +9,20 @@ use Rattle.judge.proofs.head_read.Tie as tie
 found-in-requires : tie.Need-found-in-requires
 found-in-requires c κs = search needs
 
-kind-of-requires : tie.Need-kind-of-requires
-kind-of-requires c κs = search needs
+told-of-requires : tie.Need-told-of-requires
+told-of-requires c κs = search needs
 
 identifier-requires : tie.Need-identifier-requires
 identifier-requires c κs = search needs
 
 returns : tie.Need-returns
 returns c =
-    let k = c .before .kind-of in
+    let k = c .before .told-of in
     let c1 = c .before .before .before .before in
     let f = c1 .found-in in
-    let a = c1 .before .before .before .before .args in
-    head-read (lent (a .day) (a .banks .now) (a .known .now)) (a .r .now) (a .tally) (f .result) (k .result) (c .identifier .result) (f .ensures)
-    (k .ensures) (c .identifier .ensures)
+    let a = c1 .before .before .before .before .before .args in
+    head-read (lent (a .day) (a .banks .now) (a .known .now) (a .barred .now)) (a .r .now) (a .tally) (f .result) (k .result) (c .identifier .result)
+    (f .ensures) (k .ensures) (c .identifier .ensures)
 
 pub head-read-spec : {M : Type 1} → statement M
-head-read-spec = tie.close (tie.spec found-in-requires kind-of-requires identifier-requires returns)
+head-read-spec = tie.close (tie.spec found-in-requires told-of-requires identifier-requires returns)

@@ -20,7 +20,7 @@ slice-write-table c = search needs
 
 counted-requires : tie.Need-counted-requires
 counted-requires c κs =
-    let c1 = c .before .before .before .before .before .before .before .before .before in
+    let c1 = c .before .before .before .before .before .before .before .before .before .before in
     let a = c1 .args in
     countable (a .tally) (a .table .now) (a .day) (a .banks .now) (a .tally .accepted .count + a .tally .refused .count + 1) (a .r .now)
     (c .found-in .result) (c1 .pre) (c .found-in .ensures)
@@ -30,7 +30,7 @@ same-length c = search needs
 
 returns : tie.Need-returns
 returns c =
-    let c1 = c .before .before in
+    let c1 = c .before .before .before in
     let c2 = c1 .before .before .before .before .before .before .before .before in
     let a = c2 .args in
     item-read (a .day) (a .banks .now) (a .tally) (c .counted .result) (a .table .now) (a .r .now) (c1 .if1 .taken) (c .before .found-in .result)

@@ -12,11 +12,11 @@ use Rattle.judge.proofs.record_read.Tie as tie
 
 -- what is lent
 abbrev given : tie.Start → Lent
-given c = lent (c .args .day) (c .args .banks .now) (c .args .known .now)
+given c = lent (c .args .day) (c .args .banks .now) (c .args .known .now) (c .args .barred .now)
 
 -- the function's start, from the place after what its parameters tell
 abbrev start : tie.After-slice-known → tie.Start
-start c = c .before .before .before .before
+start c = c .before .before .before .before .before
 
 has-ending-requires : tie.Need-has-ending-requires
 has-ending-requires c κs = search needs

@@ -46,11 +46,11 @@ abbrev given : tie.Start → Session
 given c = partsOf (c .args .day) (c .args .room) (c .args .tally) (c .args .fill) (c .args .held .now)
 
 abbrev lists : tie.Start → Lists
-lists c = listed (c .args .banks .now) (c .args .known .now)
+lists c = listed (c .args .banks .now) (c .args .known .now) (c .args .barred .now)
 
 returns : tie.Need-returns
 returns c =
-    let c1 = c .before .before .before .before in
+    let c1 = c .before .before .before .before .before in
     no-length (given c1) (lists c1) (c1 .args .len) (c .if1 .taken)
 
 in-range-requires : tie.Need-in-range-requires
@@ -60,7 +60,7 @@ returns-2 : tie.Need-returns-2
 returns-2 c =
     let c1 = c .before in
     let c2 = c1 .before in
-    let c3 = c2 .before .before .before .before in
+    let c3 = c2 .before .before .before .before .before in
     no-session (given c3) (lists c3) (c3 .args .len) (c2 .if1 .left) (c1 .in-range .ensures) (c .if2 .taken)
 
 list-refused-requires : tie.Need-list-refused-requires
@@ -79,7 +79,7 @@ returns-3 c =
     let c3 = c2 .before in
     let c4 = c3 .before in
     let c5 = c4 .before in
-    let c6 = c5 .before .before .before .before in
+    let c6 = c5 .before .before .before .before .before in
     no-table (given c6) (lists c6) (c6 .args .len) (c5 .if1 .left) (c4 .in-range .ensures) (c3 .if2 .left) (c2 .list-refused .ensures)
     (done (c2 .list-refused .result) (c1 .match .keys2)) (c .if3 .taken)
 
@@ -90,7 +90,7 @@ returns-4 c =
     let c3 = c2 .before in
     let c4 = c3 .before in
     let c5 = c4 .before in
-    let c6 = c5 .before .before .before .before in
+    let c6 = c5 .before .before .before .before .before in
     no-list (given c6) (lists c6) (c6 .args .len) (c5 .if1 .left) (c4 .in-range .ensures) (c3 .if2 .left) (c2 .list-refused .ensures)
     (c1 .r .given .0 .0) (c1 .r .given .1)
 
@@ -101,7 +101,7 @@ returns-5 c =
     let c3 = c2 .before in
     let c4 = c3 .before in
     let c5 = c4 .before in
-    let c6 = c5 .before .before .before .before in
+    let c6 = c5 .before .before .before .before .before in
     passes (given c6) (lists c6) (c6 .args .len) (c5 .if1 .left) (c4 .in-range .ensures) (c3 .if2 .left) (c2 .list-refused .ensures)
     (done (c2 .list-refused .result) (c1 .match .keys2)) (c .if3 .left)
 

@@ -64,7 +64,7 @@ abbrev given : tie.Start → Session
 given c = partsOf (c .args .day) (c .args .room) (c .args .tally) (c .args .fill) (c .args .held .now)
 
 abbrev lists : tie.Start → Lists
-lists c = listed (c .args .banks .now) (c .args .known .now)
+lists c = listed (c .args .banks .now) (c .args .known .now) (c .args .barred .now)
 
 refusal-of-requires : tie.Need-refusal-of-requires
 refusal-of-requires c κs = search needs
@@ -79,7 +79,7 @@ fed-requires : tie.Need-fed-requires
 fed-requires c κs =
     let c1 = c .before .before .before in
     let c2 = c1 .before in
-    let c3 = c2 .before .before .before .before .before .before .before in
+    let c3 = c2 .before .before .before .before .before .before .before .before in
     passes (given c3) (c3 .args .piece .now) (lists c3) (c3 .args .table .now)
     (sym (c2 .refusal-of .ensures) ∙ done (c2 .refusal-of .result) (c1 .match .keys2))
 
@@ -90,7 +90,7 @@ returns : tie.Need-returns
 returns c =
     let c1 = c .before in
     let c2 = c1 .before .before in
-    let c3 = c2 .before .before .before .before .before .before .before in
+    let c3 = c2 .before .before .before .before .before .before .before .before in
     stops (given c3) (c3 .args .piece .now) (lists c3) (c3 .args .table .now) (c1 .r .given .0 .0)
     (sym (c2 .refusal-of .ensures) ∙ c1 .r .given .1)
 
@@ -105,7 +105,7 @@ returns-2 c =
     let c1 = c .before .before .before .before .before in
     let c2 = c1 .before .before .before .before in
     let c3 = c2 .before in
-    let c4 = c3 .before .before .before .before .before .before .before in
+    let c4 = c3 .before .before .before .before .before .before .before .before in
     reads (given c4) (c4 .args .piece .now) (lists c4) (c4 .args .table .now)
     (sym (c3 .refusal-of .ensures) ∙ done (c3 .refusal-of .result) (c2 .match .keys2)) (c1 .fed .result) (c1 .fed .ensures)
 

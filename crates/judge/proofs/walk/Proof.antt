@@ -25,15 +25,15 @@ record Walking (l : Lent) (piece : List ℕ) (from : ℕ) (c₀ : Tally) (t₀ :
   walk : Walk (rules l) (sound l) (stateWith c₀ [] t₀) (drop from piece) (i - from) c t
 
 abbrev Inv-loop : tie.InvT-loop
-Inv-loop piece from day banks known table₀ t₀ i₀ table t i =
-    Walking (lent day banks known) piece from t₀ table₀ table t i
+Inv-loop piece from day banks known barred table₀ t₀ i₀ table t i =
+    Walking (lent day banks known barred) piece from t₀ table₀ table t i
 
 abbrev μ-loop : tie.MeasureT-loop
-μ-loop piece from day banks known table₀ t₀ i₀ table t i = length piece - i
+μ-loop piece from day banks known barred table₀ t₀ i₀ table t i = length piece - i
 
 -- what is lent, and its rules
 abbrev given : tie.Start Inv-loop μ-loop → Lent
-given c = lent (c .args .day) (c .args .banks .now) (c .args .known .now)
+given c = lent (c .args .day) (c .args .banks .now) (c .args .known .now) (c .args .barred .now)
 
 abbrev R : tie.Start Inv-loop μ-loop → Rules
 R c = rules (given c)
@@ -43,7 +43,7 @@ ok c = sound (given c)
 
 -- the function's start, from the place after what its parameters tell
 abbrev start : tie.After-slice-known Inv-loop μ-loop → tie.Start Inv-loop μ-loop
-start c = c .before .before .before .before
+start c = c .before .before .before .before .before
 
 loop-holds : tie.Need-loop-holds Inv-loop μ-loop
 loop-holds c =

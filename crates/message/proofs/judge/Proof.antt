@@ -80,7 +80,7 @@ module _ (l : Lent) (t m : List ℕ) where
 
 -- what is lent
 abbrev given : tie.Start → Lent
-given c = lent (c .args .day) (c .args .banks .now) (c .args .known .now)
+given c = lent (c .args .day) (c .args .banks .now) (c .args .known .now) (c .args .barred .now)
 
 open-requires : tie.Need-open-requires
 open-requires c κs = search needs
@@ -116,7 +116,7 @@ returns : tie.Need-returns
 returns c =
     let c1 = c .before .before in
     let c2 = c1 .before .before .before in
-    let c3 = c2 .before .before .before .before .before .before in
+    let c3 = c2 .before .before .before .before .before .before .before in
     refuses (given c3) (c3 .args .table .now) (c3 .args .message .now) (c2 .«open» .result) (c2 .«open» .ensures) (c1 .o .given .0 .0) (c1 .o .given .1)
     (c .refused .ensures)
 
@@ -129,7 +129,7 @@ returns-2 c =
     let c2 = c1 .before .before .before .before .before in
     let c3 = c2 .before .before .before in
     let c4 = c3 .before .before in
-    let c5 = c4 .before .before .before .before .before .before in
+    let c5 = c4 .before .before .before .before .before .before .before in
     stops (given c5) (c5 .args .table .now) (c5 .args .message .now) (c4 .«open» .result) (c4 .«open» .ensures)
     (done (c4 .«open» .result .outcome) (c3 .match .keys2)) (c2 .take .result) (c2 .take .ensures) (c1 .o2 .given .0 .0) (c1 .o2 .given .1)
     (c .refused2 .ensures)
@@ -143,7 +143,7 @@ returns-3 c =
     let c2 = c1 .before .before .before .before in
     let c3 = c2 .before .before .before in
     let c4 = c3 .before .before in
-    let c5 = c4 .before .before .before .before .before .before in
+    let c5 = c4 .before .before .before .before .before .before .before in
     closes (given c5) (c5 .args .table .now) (c5 .args .message .now) (c4 .«open» .result) (c4 .«open» .ensures)
     (done (c4 .«open» .result .outcome) (c3 .match .keys2)) (c2 .take .result) (c2 .take .ensures) (done (c2 .take .result .outcome) (c1 .match2 .keys2))
     (c .before .close .ensures)

@@ -8,7 +8,7 @@ use Rattle.nshanvekh.proofs.nsh_judge.Tie as tie
 
 -- what is lent
 abbrev given : tie.Start → Lent
-given c = lent (c .args .day) (c .args .banks .now) (c .args .known .now)
+given c = lent (c .args .day) (c .args .banks .now) (c .args .known .now) (c .args .barred .now)
 
 returns : tie.Need-returns
 returns c = judge-wrong (c .if1 .taken)
@@ -22,7 +22,7 @@ number-of-requires c κs = search needs
 tell-requires : tie.Need-tell-requires
 tell-requires c κs =
     let c1 = c .before .before .before .before .before .before .before .before in
-    let c2 = c1 .before .before .before .before .before .before .before in
+    let c2 = c1 .before .before .before .before .before .before .before .before in
     sizes (c2 .args .numbers .now) 7 (c2 .args .id .now) (c1 .if1 .left)
 
 same-length : tie.Need-same-length
@@ -40,7 +40,7 @@ returns-2 c =
     let c2 = c1 .before .before .before in
     let c3 = c2 .before .before .before .before in
     let c4 = c3 .before .before in
-    let c5 = c4 .before .before .before .before .before .before .before in
+    let c5 = c4 .before .before .before .before .before .before .before .before in
     judge-told {l = given c5} (c4 .if1 .left) (c3 .judge .ensures) (c2 .number-of .ensures) (c1 .tell .ensures)
 
 pub nsh-judge-spec : {M : Type 1} → statement M

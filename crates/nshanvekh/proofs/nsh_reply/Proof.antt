@@ -8,7 +8,7 @@ use Rattle.nshanvekh.proofs.nsh_reply.Tie as tie
 
 -- what is lent
 abbrev given : tie.Start → Lent
-given c = lent (c .args .day) (c .args .banks .now) (c .args .known .now)
+given c = lent (c .args .day) (c .args .banks .now) (c .args .known .now) (c .args .barred .now)
 
 returns : tie.Need-returns
 returns c = reply-wrong (c .if1 .taken)
@@ -34,7 +34,7 @@ returns-2 c =
     let c2 = c1 .before .before .before .before in
     let c3 = c2 .before .before in
     let c4 = c3 .before in
-    let c5 = c4 .before .before .before .before .before .before in
+    let c5 = c4 .before .before .before .before .before .before .before in
     reply-told {l = given c5} (c4 .if1 .left) (c3 .particulars .ensures) (c2 .write .ensures) (c1 .tell-reply .ensures)
 
 pub nsh-reply-spec : {M : Type 1} → statement M

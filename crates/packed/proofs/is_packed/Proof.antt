@@ -14,8 +14,17 @@ shared-slice-read-result c = search needs
 shared-slice-read-result-2 : tie.Need-shared-slice-read-result-2
 shared-slice-read-result-2 c = search needs
 
+shared-slice-read-result-3 : tie.Need-shared-slice-read-result-3
+shared-slice-read-result-3 c = search needs
+
+shared-slice-read-result-4 : tie.Need-shared-slice-read-result-4
+shared-slice-read-result-4 c = search needs
+
+shared-slice-read-result-5 : tie.Need-shared-slice-read-result-5
+shared-slice-read-result-5 c = search needs
+
 returns-2 : tie.Need-returns-2
-returns-2 c = tested (c .before .before .before .args .x .now) (c .before .before .if1 .left)
+returns-2 c = tested (c .before .before .before .before .before .before .args .x .now) (c .before .before .before .before .before .if1 .left)
 
 pub is-packed-spec : {M : Type 1} → statement M
 is-packed-spec =
@@ -24,4 +33,7 @@ is-packed-spec =
     returns
     shared-slice-read-result
     shared-slice-read-result-2
+    shared-slice-read-result-3
+    shared-slice-read-result-4
+    shared-slice-read-result-5
     returns-2)

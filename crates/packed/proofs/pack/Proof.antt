@@ -11,7 +11,6 @@ use Rattle.packed.proofs.pack.Tie as tie
 tally-at : (c : tie.Start) → TallyFits (c .args .s .tally) (c .args .s .fill)
 tally-at c =
     record {
-      told = search needs;
       acceptedCount = search needs;
       acceptedSum = search needs;
       refusedCount = search needs;
@@ -42,17 +41,28 @@ put-little-requires c κs = search needs
 put-little-requires-2 : tie.Need-put-little-requires-2
 put-little-requires-2 c κs = search needs
 
-put-tally-requires : tie.Need-put-tally-requires
-put-tally-requires c κs = search needs
+put-counts-requires : tie.Need-put-counts-requires
+put-counts-requires c κs = search needs
 
 slice-aggregate-put-at-2 : tie.Need-slice-aggregate-put-at-2
 slice-aggregate-put-at-2 c =
-    let dated = c .before .before .before .before .before .before .before .before .before .before .before .before in
-    let test = dated .before .before .before .before .before .before .before .before .before .before in
-    search (needs, fits-at (test .before .before) .held)
+    let counted = c .before .before .before .before in
+    let dated = counted .before .before .before .before .before .before .before .before in
+    let test = dated .before .before .before .before .before .before .before .before .before .before .before in
+    search (needs, fits-at (test .before .before) .tally .id)
 
 put-at-requires-2 : tie.Need-put-at-requires-2
 put-at-requires-2 c κs = search needs
+
+slice-aggregate-put-at-3 : tie.Need-slice-aggregate-put-at-3
+slice-aggregate-put-at-3 c =
+    let counted = c .before .before .before .before .before .before .before .before .before in
+    let dated = counted .before .before .before .before .before .before .before .before in
+    let test = dated .before .before .before .before .before .before .before .before .before .before .before in
+    search (needs, fits-at (test .before .before) .held)
+
+put-at-requires-3 : tie.Need-put-at-requires-3
+put-at-requires-3 c κs = search needs
 
 same-length : tie.Need-same-length
 same-length c = search needs
@@ -60,15 +70,25 @@ same-length c = search needs
 returns-2 : tie.Need-returns-2
 returns-2 c =
     let held = c .before .before in
-    let tallied = held .before .before .before .before .before in
-    let roomed = tallied .before .before .before .before in
+    let named = held .before .before .before .before .before in
+    let counted = named .before .before .before .before .before in
+    let roomed = counted .before .before .before .before in
     let dated = roomed .before .before .before .before in
     let marked = dated .before .before .before .before .before in
-    let test = marked .before .before .before .before .before in
+    let test = marked .before .before .before .before .before .before in
     let start = test .before .before in
     right-size (fits-at start) (test .if1 .left) (marked .put-at .ensures) (dated .put-little .ensures) (roomed .put-little2 .ensures)
-    (tallied .put-tally .ensures .bytes) (held .put-at2 .ensures)
-    (omega (arith, test .if1 .left, marked .put-at .kept .0, dated .put-little .kept .0, roomed .put-little2 .kept .0, tallied .put-tally .kept .1 .1 .0))
+    (omega (arith, test .if1 .left, marked .put-at .kept .0, dated .put-little .kept .0, roomed .put-little2 .kept .0))
+    (counted .put-counts .ensures .bytes) (named .put-at2 .ensures) (held .put-at3 .ensures)
+    (omega (
+      arith,
+      test .if1 .left,
+      marked .put-at .kept .0,
+      dated .put-little .kept .0,
+      roomed .put-little2 .kept .0,
+      counted .put-counts .kept .1 .1 .0,
+      named .put-at2 .kept .0,
+    ))
 
 pub pack-spec : {M : Type 1} → statement M
 pack-spec =
@@ -80,8 +100,10 @@ pack-spec =
     cast-put-little
     put-little-requires
     put-little-requires-2
-    put-tally-requires
+    put-counts-requires
     slice-aggregate-put-at-2
     put-at-requires-2
+    slice-aggregate-put-at-3
+    put-at-requires-3
     same-length
     returns-2)

@@ -12,7 +12,7 @@ number-at-requires c κs = search needs
 
 cast-day : tie.Need-cast-day
 cast-day c =
-    let read = c .before .before .before .before .before .before in
+    let read = c .before .before .before .before .before .before .before in
     let start = read .before in
     search (needs, four-fits (start .args .session .now) 4 (λ i. read .slice-known .given i .fits) (omega (arith, start .pre)) (c .number-at .ensures))
 
@@ -50,7 +50,7 @@ returns c =
     let at-tally-in = at-number-at3 .before .before in
     let at-number-at2 = at-tally-in .before .before in
     let at-number-at = at-number-at2 .before .before in
-    let start = at-number-at .before .before .before .before .before .before .before in
+    let start = at-number-at .before .before .before .before .before .before .before .before in
     back (start .pre) (same-length c) (at-number-at .number-at .ensures) (at-number-at2 .number-at2 .ensures) (at-tally-in .tally-in .ensures)
     (at-number-at3 .number-at3 .ensures) (at-take-lent .take-lent .ensures)
 

@@ -4,7 +4,7 @@ use mathlib.Core.Path.{sym, _∙_}
 use borrow.Author.Tests.{not-false}
 use Rattle.lent.proofs.Arms.{done as is-done}
 use Rattle.packed.proofs.Fields.{long}
-use Rattle.packed.proofs.Taking.{no-session, done, refused}
+use Rattle.packed.proofs.Taking.{no-session, named, done, refused}
 use borrow.Author.Needs.{needs}
 use Rattle.packed.proofs.take.Statement.{statement}
 use Rattle.packed.proofs.take.Tie as tie
@@ -22,14 +22,23 @@ step-in-requires : tie.Need-step-in-requires
 step-in-requires c κs =
     let at-if1 = c .before .before in
     let at-is-packed = at-if1 .before in
-    let a = at-is-packed .before .before .before .before .before .before .before .args in
+    let a = at-is-packed .before .before .before .before .before .before .before .before .args in
     long (a .session .now) (sym (at-is-packed .is-packed .ensures) ∙ not-false _ (at-if1 .if1 .left))
 
 enum-told : tie.Need-enum-told
 enum-told c = search needs
 
 put-tally-requires : tie.Need-put-tally-requires
-put-tally-requires c κs = search needs
+put-tally-requires c κs =
+    let at-match = c .before .before in
+    let at-step-in = at-match .before .before .before .before .before .before in
+    let at-if1 = at-step-in .before .before .before in
+    let at-is-packed = at-if1 .before in
+    let k = at-step-in .step-in .ensures in (
+      k .long,
+      named (sym (at-is-packed .is-packed .ensures) ∙ not-false _ (at-if1 .if1 .left)) k
+          (is-done (at-step-in .step-in .result .outcome) (at-match .match .keys1)),
+    )
 
 enum-known-o : tie.Need-enum-known-o
 enum-known-o c = search needs
@@ -47,7 +56,7 @@ returns-2 c =
     let at-step-in = at-match .before .before .before .before .before .before in
     let at-if1 = at-step-in .before .before .before in
     let at-is-packed = at-if1 .before in
-    let at-slice-known = at-is-packed .before .before .before .before .before .before in
+    let at-slice-known = at-is-packed .before .before .before .before .before .before .before in
     done (sym (at-is-packed .is-packed .ensures) ∙ not-false _ (at-if1 .if1 .left)) (at-step-in .step-in .ensures)
     (λ i. at-slice-known .slice-known .given i .fits) (is-done (at-step-in .step-in .result .outcome) (at-match .match .keys1))
     (at-put-tally .put-tally .ensures)

@@ -1,6 +1,6 @@
 -- `packed::unpack` meets its contract: a session, or the closed one.
 -- Assumes nothing.
-use Rattle.packed.proofs.Fields.{long, packed, others}
+use Rattle.packed.proofs.Fields.{long, packed, no-session}
 use mathlib.Core.Path.{sym, _∙_}
 use borrow.Author.Needs.{needs}
 use Rattle.packed.proofs.unpack.Statement.{statement}
@@ -23,7 +23,7 @@ returns-2 c =
     let at-if1 = c .before .before in
     let at-is-packed = at-if1 .before in
     let a = at-is-packed .before .before .args in
-    others (a .x .now) (at-is-packed .is-packed .ensures) (at-if1 .if1 .left) _ (c .before .«open» .ensures)
+    no-session (a .x .now) (at-is-packed .is-packed .ensures) (at-if1 .if1 .left) _ (c .before .«open» .ensures)
 
 pub unpack-spec : {M : Type 1} → statement M
 unpack-spec =

@@ -24,11 +24,14 @@ within {l} {m} {p} {out} w {n} q = granted l m p out n (sym (w .result) ∙ q) .
 read-full-requires : tie.Need-read-full-requires
 read-full-requires c κs = search needs
 
+slice-aggregate-write : tie.Need-slice-aggregate-write
+slice-aggregate-write c = search needs
+
 slice-reshare-prefix-write : tie.Need-slice-reshare-prefix-write
 slice-reshare-prefix-write c = search needs
 
-slice-aggregate-write : tie.Need-slice-aggregate-write
-slice-aggregate-write c = search needs
+slice-aggregate-write-2 : tie.Need-slice-aggregate-write-2
+slice-aggregate-write-2 c = search needs
 
 write-requires : tie.Need-write-requires
 write-requires c κs = search needs
@@ -78,8 +81,9 @@ answer-spec =
     tie.close
     (tie.spec
     read-full-requires
-    slice-reshare-prefix-write
     slice-aggregate-write
+    slice-reshare-prefix-write
+    slice-aggregate-write-2
     write-requires
     enum-known-a
     refuse-requires

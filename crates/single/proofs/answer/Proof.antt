@@ -2,7 +2,7 @@
 -- Assumes nothing.
 use mathlib.Core.Path.{_≡_, sym, _∙_}
 use mathlib.Core.Bool.{true, false}
-use mathlib.Core.List.{List}
+use mathlib.Core.List.{List, []}
 use Prim.Native.Nat.{ℕ}
 use lib.ListN.{length}
 use borrow.Author.Tests.{eq-eqb, ne-eqb, not-true, not-false}
@@ -48,7 +48,7 @@ module _ (l : Lent) (kind k : ℕ) (r : List ℕ) where
 
 -- what is lent
 abbrev given : tie.Start → Lent
-given c = lent (c .args .e) (c .args .banks .now) (c .args .known .now)
+given c = lent (c .args .e) (c .args .banks .now) (c .args .known .now) []
 
 is-date-requires : tie.Need-is-date-requires
 is-date-requires c κs = search needs
@@ -58,6 +58,9 @@ returns c =
     let c1 = c .before in
     let c2 = c1 .before .before .before .before in
     no-day (given c2) (c2 .args .kind) (c2 .args .k) (c2 .args .r .now) (sym (c1 .is-date .ensures) ∙ not-true _ (c .if1 .taken))
+
+slice-aggregate-list-refused : tie.Need-slice-aggregate-list-refused
+slice-aggregate-list-refused c = search needs
 
 list-refused-requires : tie.Need-list-refused-requires
 list-refused-requires c κs = search needs
@@ -76,7 +79,7 @@ returns-2 c =
     let c1 = c .before in
     let c2 = c1 .before .before in
     let c3 = c2 .before in
-    let c4 = c3 .before in
+    let c4 = c3 .before .before in
     let c5 = c4 .before in
     let c6 = c5 .before .before .before .before in
     head (given c6) (c6 .args .kind) (c6 .args .k) (c6 .args .r .now) (sym (c5 .is-date .ensures) ∙ not-false _ (c4 .if1 .left)) (c3 .list-refused .ensures)
@@ -91,7 +94,7 @@ returns-3 c =
     let c2 = c1 .before in
     let c3 = c2 .before .before in
     let c4 = c3 .before in
-    let c5 = c4 .before in
+    let c5 = c4 .before .before in
     let c6 = c5 .before in
     let c7 = c6 .before .before .before .before in
     item (given c7) (c7 .args .kind) (c7 .args .k) (c7 .args .r .now) (sym (c6 .is-date .ensures) ∙ not-false _ (c5 .if1 .left)) (c4 .list-refused .ensures)
@@ -101,7 +104,7 @@ returns-4 : tie.Need-returns-4
 returns-4 c =
     let c1 = c .before in
     let c2 = c1 .before .before in
-    let c3 = c2 .before in
+    let c3 = c2 .before .before in
     let c4 = c3 .before in
     let c5 = c4 .before .before .before .before in
     no-list (given c5) (c5 .args .kind) (c5 .args .k) (c5 .args .r .now) (sym (c4 .is-date .ensures) ∙ not-false _ (c3 .if1 .left)) (c2 .list-refused .ensures)
@@ -112,7 +115,7 @@ returns-5 c =
     let c1 = c .before in
     let c2 = c1 .before .before in
     let c3 = c2 .before in
-    let c4 = c3 .before in
+    let c4 = c3 .before .before in
     let c5 = c4 .before in
     let c6 = c5 .before .before .before .before in
     other (given c6) (c6 .args .kind) (c6 .args .k) (c6 .args .r .now) (sym (c5 .is-date .ensures) ∙ not-false _ (c4 .if1 .left)) (c3 .list-refused .ensures)
@@ -124,6 +127,7 @@ answer-spec =
     (tie.spec
     is-date-requires
     returns
+    slice-aggregate-list-refused
     list-refused-requires
     enum-known-why
     enum-told

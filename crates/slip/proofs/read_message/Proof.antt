@@ -1,6 +1,7 @@
 -- `slip::read_message` meets its contract: each turn feeds one piece more. The turns that are left fall.
 -- Assumes nothing.
 use mathlib.Core.Path.{_≡_}
+use mathlib.Core.List.{[]}
 use native.Mathlib.Omega.{arith}
 use lib.ListN.{length}
 use Rattle.lent.specs.Lent.{listed}
@@ -12,7 +13,7 @@ use Rattle.slip.proofs.read_message.Tie as tie
 
 abbrev Inv-loop : tie.InvT-loop
 Inv-loop space₀ banks known table₀ t₀ turns₀ space table t turns =
-    (length space ≡ length space₀) × (length table ≡ length table₀) × FedBy t₀ (listed banks known) table₀ t table
+    (length space ≡ length space₀) × (length table ≡ length table₀) × FedBy t₀ (listed banks known []) table₀ t table
 
 abbrev μ-loop : tie.MeasureT-loop
 μ-loop space₀ banks known table₀ t₀ turns₀ space table t turns = turns

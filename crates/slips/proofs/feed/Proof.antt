@@ -1,7 +1,7 @@
 -- `slips::feed` meets its contract: it goes by the outcome before.
 -- Assumes nothing.
 use mathlib.Core.Path.{_≡_}
-use mathlib.Core.List.{List}
+use mathlib.Core.List.{List, []}
 use Prim.Native.Nat.{ℕ}
 use Rattle.lent.specs.Lent.{Lists, listed}
 use Rattle.lent.specs.declared.Refusal.{Refusal}
@@ -22,12 +22,15 @@ module _ (t : Taken) (p : List ℕ) (l : Lists) (table : List ℕ) where
   unfolding fedOf tableFed
   stays r e = record { result = rw e; bytes = rw e }
 
--- the lists given
+-- the lists given, and no bank barred
 abbrev lists : tie.Start → Lists
-lists c = listed (c .args .banks .now) (c .args .known .now)
+lists c = listed (c .args .banks .now) (c .args .known .now) []
 
 enum-told : tie.Need-enum-told
 enum-told c = search needs
+
+slice-aggregate-take : tie.Need-slice-aggregate-take
+slice-aggregate-take c = search needs
 
 take-requires : tie.Need-take-requires
 take-requires c κs = search needs
@@ -41,7 +44,7 @@ same-length c = search needs
 returns : tie.Need-returns
 returns c =
     let c1 = c .before .before in
-    let c2 = c1 .before .before in
+    let c2 = c1 .before .before .before in
     let c3 = c2 .before .before .before .before .before .before .before in
     let a = c3 .args in
     takes (a .t) (a .piece .now) (lists c3) (a .table .now) (c2 .enum-told .given .1) (c1 .take .ensures)
@@ -53,4 +56,4 @@ returns-2 c =
     stays (a .t) (a .piece .now) (lists c1) (a .table .now) (c .enum-told2 .given .0 .0) (c .enum-told2 .given .1)
 
 pub feed-spec : {M : Type 1} → statement M
-feed-spec = tie.close (tie.spec enum-told take-requires enum-told-2 same-length returns returns-2)
+feed-spec = tie.close (tie.spec enum-told slice-aggregate-take take-requires enum-told-2 same-length returns returns-2)

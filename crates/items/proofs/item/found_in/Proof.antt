@@ -1,7 +1,7 @@
--- `items::item::found_in` meets its contract: the codes by the findings are those of the table.
+-- `items::item::found_in` meets its contract: the codes by the findings are those of the table, and under a bar 14.
 -- Assumes nothing.
-use mathlib.Core.Path.{_≡_}
-use mathlib.Core.Bool.{Bool, false, not}
+use mathlib.Core.Path.{_≡_, ap}
+use mathlib.Core.Bool.{Bool, false, cond, not}
 use mathlib.Core.List.{List}
 use Prim.Native.Nat.{ℕ}
 use lib.ListN.{length}
@@ -11,8 +11,9 @@ use Rattle.text.specs.Text.{isText}
 use Rattle.account.specs.Account.{isZeroAccount}
 use Rattle.lists.specs.Banks.{foundIn}
 use Rattle.frame.specs.declared.Found.{Found}
+use Rattle.frame.specs.declared.Told.{Told}
 use Rattle.findings.specs.Codes.{firstWhole, firstAlone}
-use Rattle.kinds.specs.Codes.{itemFound}
+use Rattle.kinds.specs.Codes.{itemFound, underBar, itemTold}
 use Rattle.items.specs.Items.{itemFields, rulesOf}
 use Rattle.items.proofs.Tables.{same-fault, same-code}
 use borrow.Author.Needs.{needs}
@@ -39,13 +40,29 @@ module _ (kind e : ℕ) (isListed : ℕ → Bool) (k : ℕ) (r : List ℕ) where
   unfolding itemFound itemFields
   is-found h = rw (eq-eqb (length r) 249 h, same-fault kind e isListed k r, same-code kind e isListed k r)
 
+-- by what the head told
+module _ (told : Told) (e : ℕ) (isListed : ℕ → Bool) (k : ℕ) (r : List ℕ) where
+  broken-told : (length r ≡ 249 → ⊥) → {c : ℕ} → c ≡ cond (told .barred) 14 0
+      → record { letter = false; fault = 26; code = c; amount = 0; zero = false } ≡ itemTold told e isListed k r
+  broken-told f i = rw i (ap (underBar (told .barred)) (broken (told .kind) e isListed k r f))
+
+  is-told : length r ≡ 249 → underBar (told .barred) (given (told .kind) e isListed k r) ≡ itemTold told e isListed k r
+  is-told h = ap (underBar (told .barred)) (is-found (told .kind) e isListed k r h)
+
+under-bar-requires : tie.Need-under-bar-requires
+under-bar-requires c κs = search needs
+
 returns : tie.Need-returns
 returns c =
-    let c1 = c .before .before .before in
-    broken (c1 .args .kind) (c1 .args .e) (foundIn (c1 .args .banks .now)) (c1 .args .k) (c1 .args .r .now) (c .if1 .taken)
+    let c1 = c .before in
+    let c2 = c1 .before .before .before in
+    broken-told (c2 .args .told) (c2 .args .e) (foundIn (c2 .args .banks .now)) (c2 .args .k) (c2 .args .r .now) (c1 .if1 .taken) (c .under-bar .ensures)
+
+cast-fields-in : tie.Need-cast-fields-in
+cast-fields-in c = search needs
 
 fields-in-requires : tie.Need-fields-in-requires
-fields-in-requires c κs = c .if1 .left
+fields-in-requires c κs = c .before .if1 .left
 
 sub-is-text : tie.Need-sub-is-text
 sub-is-text c = search needs
@@ -65,6 +82,9 @@ whole-of-requires c κs = search needs
 alone-of-requires : tie.Need-alone-of-requires
 alone-of-requires c κs = search needs
 
+under-bar-requires-2 : tie.Need-under-bar-requires-2
+under-bar-requires-2 c κs = search needs
+
 sub-is-zero : tie.Need-sub-is-zero
 sub-is-zero c = search needs
 
@@ -82,17 +102,20 @@ returns-2 c =
     let c1 = c .before .before in
     let c2 = c1 .before in
     let c3 = c2 .before in
-    let c4 = c3 .before .before .before in
-    let c5 = c4 .before in
-    let c6 = c5 .before .before .before in
-    rw (c3 .is-text .ensures, c2 .whole-of .ensures, c1 .alone-of .ensures, c4 .fields-in .ensures, c .is-zero .ensures)
-    (is-found (c6 .args .kind) (c6 .args .e) (foundIn (c6 .args .banks .now)) (c6 .args .k) (c6 .args .r .now) (c5 .if1 .left))
+    let c4 = c3 .before in
+    let c5 = c4 .before .before .before in
+    let c6 = c5 .before .before in
+    let c7 = c6 .before .before .before in
+    rw (c4 .is-text .ensures, c3 .whole-of .ensures, c1 .under-bar2 .ensures, c2 .alone-of .ensures, c5 .fields-in .ensures, c .is-zero .ensures)
+    (is-told (c7 .args .told) (c7 .args .e) (foundIn (c7 .args .banks .now)) (c7 .args .k) (c7 .args .r .now) (c6 .if1 .left))
 
 pub found-in-spec : {M : Type 1} → statement M
 found-in-spec =
     tie.close
     (tie.spec
+    under-bar-requires
     returns
+    cast-fields-in
     fields-in-requires
     sub-is-text
     part-is-text-start
@@ -100,6 +123,7 @@ found-in-spec =
     is-text-requires
     whole-of-requires
     alone-of-requires
+    under-bar-requires-2
     sub-is-zero
     part-is-zero-start
     part-is-zero-end

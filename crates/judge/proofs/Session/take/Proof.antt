@@ -48,8 +48,8 @@ same-length c = search needs
 
 returns : tie.Need-returns
 returns c =
-    let a = c .before .before .before .before .before .before .before .before .before .before .before .before .before .args in
-    took (a .self) (a .piece .now) (listed (a .banks .now) (a .known .now)) (a .table .now) (search needs)
+    let a = c .before .before .before .before .before .before .before .before .before .before .before .before .before .before .args in
+    took (a .self) (a .piece .now) (listed (a .banks .now) (a .known .now) (a .barred .now)) (a .table .now) (search needs)
     (c .before .before .before .before .take-lent .ensures)
 
 pub take-spec : {M : Type 1} → statement M

@@ -19,7 +19,7 @@ module _ (x : List ℕ) (k : Closing) (n : ℕ) (e : n ≡ length (slipOf k)) wh
   no-room h = unwritten (slipOf k) x (omega arith)
 
   abbrev front : List ℕ
-  front = frontLines (k .told) (k .code)
+  front = frontLines (k .kind) (k .code)
 
   abbrev accepted : List ℕ
   accepted = totalsLine (ascii "ACCEPTED ") (k .accepted)

@@ -14,21 +14,21 @@ use borrow.Author.Needs.{needs}
 use Rattle.lines.proofs.slip.put_front.Statement.{statement}
 use Rattle.lines.proofs.slip.put_front.Tie as tie
 
-module _ (x : List ℕ) (told code : ℕ) (h : length (frontLines told code) ≤ length x) where
+module _ (x : List ℕ) (kind code : ℕ) (h : length (frontLines kind code) ≤ length x) where
   abbrev message : List ℕ
   message = line (ascii "MESSAGE ") (codeWidth code) code
 
-  fits : 0 + length (kindLine told ++ message) ≤ length x
+  fits : 0 + length (kindLine kind ++ message) ≤ length x
   fits = omega arith
 
-  module _ {d : List ℕ} (e : d ≡ kindLine told) {i : ℕ} {y : List ℕ} (p : PutAt x 0 d i y) (w : ℕ) (f : w ≡ codeWidth code) where
-    kind-put : Put x 0 (kindLine told) i y
-    kind-put = puts x 0 (kindLine told) (front (length x) 0 (kindLine told) message fits) (rw e at p)
+  module _ {d : List ℕ} (e : d ≡ kindLine kind) {i : ℕ} {y : List ℕ} (p : PutAt x 0 d i y) (w : ℕ) (f : w ≡ codeWidth code) where
+    kind-put : Put x 0 (kindLine kind) i y
+    kind-put = puts x 0 (kindLine kind) (front (length x) 0 (kindLine kind) message fits) (rw e at p)
 
     second : i + length (line (ascii "MESSAGE ") w code) ≤ length y
     second = rw f (room kind-put message fits)
 
-    all : {r : ℕ} {z : List ℕ} → Put y i (line (ascii "MESSAGE ") w code) r z → Put x 0 (frontLines told code) r z
+    all : {r : ℕ} {z : List ℕ} → Put y i (line (ascii "MESSAGE ") w code) r z → Put x 0 (frontLines kind code) r z
     all q = both kind-put message fits (rw f at q)
 
 kind-line-requires : tie.Need-kind-line-requires
@@ -52,7 +52,7 @@ put-line-requires c κs =
     let kind = put .before .before in
     let start = kind .before .before .before in
     let w = c .code-width in (
-      second (start .args .out .now) (start .args .told) (start .args .code) (start .pre) (kind .kind-line .ensures) (put .put-at .ensures)
+      second (start .args .out .now) (start .args .kind) (start .args .code) (start .pre) (kind .kind-line .ensures) (put .put-at .ensures)
           (w .result) (w .ensures .0),
       w .ensures .2,
     )
@@ -67,7 +67,7 @@ returns c =
     let put = coded .before .before .before .before .before .before in
     let kind = put .before .before in
     let start = kind .before .before .before in
-    all (start .args .out .now) (start .args .told) (start .args .code) (start .pre) (kind .kind-line .ensures) (put .put-at .ensures) (w .result)
+    all (start .args .out .now) (start .args .kind) (start .args .code) (start .pre) (kind .kind-line .ensures) (put .put-at .ensures) (w .result)
     (w .ensures .0) (coded .put-line .ensures)
 
 pub put-front-spec : {M : Type 1} → statement M

@@ -130,11 +130,11 @@ module _ (l : Lent) (m : List ℕ) (p : Particulars) (out : List ℕ) where
 
 -- what is lent
 abbrev given : tie.Start → Lent
-given c = lent (c .args .day) (c .args .banks .now) (c .args .known .now)
+given c = lent (c .args .day) (c .args .banks .now) (c .args .known .now) (c .args .barred .now)
 
 -- the function's start, from the place after what its parameters tell
 abbrev start : tie.After-slice-known → tie.Start
-start c = c .before .before .before .before
+start c = c .before .before .before .before .before
 
 slice-aggregate-judge : tie.Need-slice-aggregate-judge
 slice-aggregate-judge c = sym (length-replicate {A = ℕ} most 0)

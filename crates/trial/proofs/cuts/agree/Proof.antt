@@ -7,10 +7,10 @@ use Rattle.trial.proofs.cuts.agree.Statement.{statement}
 use Rattle.trial.proofs.cuts.agree.Tie as tie
 
 abbrev Inv-loop : tie.InvT-loop
-Inv-loop first message room day banks known cut₀ cut = cut ≤ length message + 1
+Inv-loop first message room day banks known barred cut₀ cut = cut ≤ length message + 1
 
 abbrev μ-loop : tie.MeasureT-loop
-μ-loop first message room day banks known cut₀ cut = length message + 1 - cut
+μ-loop first message room day banks known barred cut₀ cut = length message + 1 - cut
 
 loop-holds : tie.Need-loop-holds Inv-loop μ-loop
 loop-holds c = search needs

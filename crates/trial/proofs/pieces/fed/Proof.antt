@@ -21,11 +21,11 @@ turn : (len count at i end j : ℕ) → j ≤ count → i + 1 ≤ j + (i + 1 - c
 turn len count at i end j h k f = smaller (len - end) (count - (i + 1)) (count - j) ((len - at) + (count - i)) (passed count i j h k) f
 
 abbrev Inv-loop : tie.InvT-loop
-Inv-loop message lengths banks known session₀ table₀ count at₀ i₀ session table at i =
+Inv-loop message lengths banks known barred session₀ table₀ count at₀ i₀ session table at i =
     (length session ≡ length session₀) × (length table ≡ length table₀) × (at ≤ length message) × (i ≤ count) × (count ≡ length lengths / 4)
 
 abbrev μ-loop : tie.MeasureT-loop
-μ-loop message lengths banks known session₀ table₀ count at₀ i₀ session table at i = (length message - at) + (count - i)
+μ-loop message lengths banks known barred session₀ table₀ count at₀ i₀ session table at i = (length message - at) + (count - i)
 
 loop-holds : tie.Need-loop-holds Inv-loop μ-loop
 loop-holds c = search needs
@@ -67,7 +67,7 @@ loop-less : tie.Need-loop-less Inv-loop μ-loop
 loop-less c =
     let b = c .before .before .before .before .before .before .before .before .before .before in
     let l = b .before .before .loop in
-    let a = b .before .before .before .before .before .before .before .before .before .args in
+    let a = b .before .before .before .before .before .before .before .before .before .before .args in
     let e = b .piece-end in
     turn (length (a .message .now)) (length (a .lengths .now) / 4) (l .at) (l .i) (e .result) (c .ahead .result) (c .ahead .ensures .1)
     (c .ahead .ensures .2) (e .ensures .2)
