@@ -72,10 +72,15 @@ def arms(crate, pattern):
     return {name: int(number) for name, number in re.findall(pattern, source(crate))}
 
 
-def calls():
-    """Each call's arguments and body in the code."""
-    found = re.findall(r'pub extern "C" fn (\w+)\(([^)]*)\) -> (\w+)(.*?)\n}', source("nshanvekh"), re.S)
-    return {name: (arguments, result, body) for name, arguments, result, body in found}
+def exports():
+    """Each call's arguments and result, as C sees them."""
+    found = re.findall(r'#\[unsafe\(no_mangle\)\]\s+pub extern "C" fn (\w+)\(([^)]*)\) -> (\w+)', source("nshanvekh_c"))
+    return {name: (arguments, result) for name, arguments, result in found}
+
+
+def bodies():
+    """The body of the library's function behind each call."""
+    return dict(re.findall(r"pub fn (\w+)\([^)]*\) -> \w+(.*?)\n}", source("nshanvekh"), re.S))
 
 
 # The numbers
@@ -83,7 +88,7 @@ def calls():
 
 def sizes_in_code():
     """The sizes that the calls look at, and the number with which they refuse another."""
-    for call, (_, _, body) in calls().items():
+    for call, body in bodies().items():
         for buffer, size in re.findall(r"(\w+)\.len\(\) [!=]= ([\w:]+)", body):
             yield SIZES.get((call, buffer), f"the size of {buffer} in {call}"), constant("nshanvekh", size)
             yield "NSH_SIZE", int(re.search(r"return (\d+);", body)[1])
@@ -120,7 +125,7 @@ def declared(call, argument):
 
 def prototypes_in_code():
     """Each call as C declares it."""
-    for call, (arguments, result, _) in calls().items():
+    for call, (arguments, result) in exports().items():
         words = [word for argument in arguments.split(",") if argument.strip() for word in declared(call, argument.strip())]
         yield call, f"{in_c(result)} {call}({', '.join(words)})"
 

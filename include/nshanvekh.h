@@ -1,7 +1,7 @@
 /* Nshanvekh: the judge of ATUTAL and BESZED messages, and of banks' cover answers (FEDJEL), for hosts in C.
 
-   Link libnshanvekh.a (`rt staticlib nshanvekh`). The library has no memory of its own, no heap and no input or output: all that it
-   reads and writes is lent for the length of a call. Of C's library it uses memcpy and memset.
+   Link libnshanvekh.a, which `rt lib` in crates/nshanvekh_c writes as out/libnshanvekh_c.a. The library has no memory of its own, no
+   heap and no input or output: all that it reads and writes is lent for the length of a call. Of C's library it uses memcpy and memset.
 
    A slice is two arguments, a pointer and a count of elements. The pointer is not null, also where the count is 0, and is aligned
    for its type. Memory that a call may write (a pointer without const) overlaps no other memory of the same call.

@@ -264,28 +264,16 @@ pub fn write_fedsta(cover: &Cover, asked: &Asked, out: &mut [u8]) -> u32 {
     }
 }
 
-/// A slice as the library's own functions lend it to each other.
-#[cfg(check_digit)]
-#[repr(C)]
-struct Slice {
-    at: *const u8,
-    length: usize,
-}
-
 #[cfg(check_digit)]
 extern "C" {
-    /// `cdv::satisfies`. Of what it returns only the last bit counts: no C entry, it needn't clear the others.
-    fn bench_satisfies(slice: *const Slice) -> u8;
+    /// `cdv::satisfies`: a slice is its pointer and its length. Of what it returns only the last bit counts: no C entry, it needn't clear the others.
+    fn bench_satisfies(at: *const u8, length: usize) -> u8;
 }
 
 /// The check digit of annex 6.
 #[cfg(check_digit)]
 #[inline]
 pub fn satisfies(field: &[u8]) -> bool {
-    let slice = Slice {
-        at: field.as_ptr(),
-        length: field.len(),
-    };
-    // SAFETY: the pointer is to a slice that lives through the call, and so does what the slice has.
-    unsafe { bench_satisfies(&slice) & 1 == 1 }
+    // SAFETY: the pointer is to what the slice has, which lives through the call.
+    unsafe { bench_satisfies(field.as_ptr(), field.len()) & 1 == 1 }
 }

@@ -1,4 +1,6 @@
 // Account fields: sixteen digits, or eight digits and eight spaces, with a check digit over the digits; and which eight are wrong.
+#![tactic(auto)]
+
 ghost use Rattle.std.specs.Prelude.{◌≡◌, false, ◌&&◌, ◌||◌, length};
 ghost use Rattle.base.specs.Bytes.{every};
 ghost use Rattle.text.specs.Text.{is_blank};
@@ -7,7 +9,7 @@ ghost use Rattle.cdv.specs.Check.{satisfies};
 ghost use Rattle.account.specs.Account.{zero, own, account_of, is_zero_account};
 
 // What an account field is found to be (02 #102).
-#[derive(Drop)]
+#[derive(Clone, Copy)]
 pub enum Account {
     Good,
     FormOfFirstEight,

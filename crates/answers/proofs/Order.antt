@@ -19,7 +19,8 @@ module _ {rs rs' : List (List ℕ)} (o : Reordered rs rs') (r : are_requests rs 
   unfolding item_code
   item_order earlier it =
       let id = field 3 27 it in
-      ap (λ (b : Bool). first_given ((74, not b) ∷ (75, some (rightly (request_of id rs)) earlier) ∷ fault_rows (request_of id rs) it)) (some_order (has_id id) o)
+      let q = request_of id rs in
+      ap (λ (b : Bool). first_given ((74, not b) ∷ (75, some (rightly q) earlier) ∷ fault_rows q it)) (some_order (has_id id) o)
       ∙ ap (λ (q : List ℕ). first_given ((74, not (is_asked id rs')) ∷ (75, some (rightly q) earlier) ∷ fault_rows q it)) (request_order id o r)
 
   codes_to_lem : (its : List (List ℕ)) (k : ℕ) → codes_to rs its k ≡ codes_to rs' its k

@@ -1,4 +1,6 @@
 // A FEDJEL's records, and the code of each of its items against the day's cover requests (02 #103; 002 sections 12.1 to 12.4).
+#![tactic(auto)]
+
 ghost use Rattle.std.specs.Prelude.{◌≡◌, ◌+◌, ◌*◌, ◌≤◌, length, take, drop, set};
 ghost use Rattle.base.specs.Groups.{groups, all, place};
 ghost use Rattle.base.specs.Tables.{first_given};

@@ -1,1 +1,2 @@
 // The field rules of ATUTAL: definitions only (specs/Tables).
+#![tactic(auto)]

@@ -55,4 +55,4 @@ unfolding over
 part xs a d ys h e =
     let k : length (drop a xs) ≤ length xs - a = omega (arith, length-drop a xs) in
     let z : drop (length xs - a) (drop a xs) ≡ [] = drop_of_length-le (drop a xs) k in
-    simp (e, tail xs a, z, zero-add, drop-drop, append_assoc) (ap (λ (l : List ℕ). take a xs ++ l) (append-nil (d ++ drop (a + length d) xs)))
+    simp (e, tail xs a, z, zero-add, drop-drop, append_assoc) (ap (λ (l : List ℕ). take a xs ++ (d ++ l)) (append-nil (drop (a + length d) xs)))

@@ -1,1 +1,3 @@
+#![tactic(auto)]
+
 // Words that the definitions of every other crate use, with their laws. There is no code here.

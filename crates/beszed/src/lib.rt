@@ -1,1 +1,2 @@
 // The field rules of BESZED: definitions only (specs/Tables).
+#![tactic(auto)]

@@ -7,7 +7,8 @@ use native.Mathlib.Omega.{arith}
 use lib.Dec.{leb}
 use borrow.Author.Tests.{leb-true, le-leb, not-true, not-false}
 use Rattle.base.proofs.Every.{both}
-use Rattle.calendar.specs.Calendar.{year_of, month_of, day_of, written, leap, month_length, year_length, is_date, days_of_years, days_of_months, days_to, day_number}
+use Rattle.calendar.specs.Calendar.{year_of, month_of, day_of, written, leap, month_length, year_length, is_date, days_of_years, days_of_months, days_to}
+use Rattle.calendar.specs.Calendar.{day_number}
 use Rattle.calendar.proofs.Numbers.{all, under}
 
 -- year y has a month m and this a day d

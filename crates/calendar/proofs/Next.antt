@@ -7,7 +7,8 @@ use Prim.Native.Nat.{ℕ, ◌+◌, ◌-◌, ◌<◌, ◌≤◌}
 use native.Mathlib.Omega.{arith}
 use lib.Dec.{lit<, lit≤}
 use borrow.Author.Tests.{lt-ltb, le-ltb}
-use Rattle.calendar.specs.Calendar.{year_of, month_of, day_of, written, leap, month_length, year_length, is_date, days_of_months, days_to, day_number, day_after}
+use Rattle.calendar.specs.Calendar.{year_of, month_of, day_of, written, leap, month_length, year_length, is_date, days_of_months, days_to, day_number}
+use Rattle.calendar.specs.Calendar.{day_after}
 use Rattle.calendar.proofs.Numbers.{lt_or_le}
 use Rattle.calendar.proofs.Dates.{Day, parts, date, fair_month, no_month, count, month_step, year_step, whole_year, is_number}
 use Rattle.calendar.proofs.Dates.{year_written, month_written, day_written, rewritten}

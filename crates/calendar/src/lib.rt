@@ -1,4 +1,6 @@
 // Gregorian dates as numbers yyyymmdd: whether a number is a date, its day number, and how two dates lie to each other.
+#![tactic(auto)]
+
 ghost use Rattle.std.specs.Prelude.{◌≡◌, true, ◌≤◌};
 ghost use Rattle.calendar.specs.DateField.{date_field};
 ghost use Rattle.calendar.specs.Calendar.{
@@ -151,7 +153,7 @@ pub fn is_due(e: u32, d: u32) -> bool
 }
 
 // What a field that should hold a date holds (01, Digits and dates).
-#[derive(Drop)]
+#[derive(Clone, Copy)]
 pub enum DateField {
     // A date, as a number yyyymmdd.
     Date(u32),

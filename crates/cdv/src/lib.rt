@@ -1,4 +1,6 @@
 // Check digits: annex 6 over any number of digits, and EAN-13. Their sums are formed by additions alone (02 #104).
+#![tactic(auto)]
+
 ghost use Rattle.std.specs.Prelude.{◌≡◌, true, ◌+◌, ◌*◌, ◌%◌, ◌<◌, ◌≤◌, eqb, length, get_or, drop};
 ghost use Rattle.digits.specs.Digits.{is_digits};
 ghost use Rattle.cdv.specs.Check.{weighed, cdv, satisfies, gs1, is_ean13};

@@ -12,7 +12,7 @@ use Rattle.calendar.specs.Calendar.{is_within, is_before}
 use Rattle.calendar.specs.Workdays.{is_due}
 use Rattle.calendar.specs.DateField.{date_field}
 use Rattle.calendar.specs.declared.DateField.{DateField}
-use Rattle.calendar.specs.declared.DateField.TheVariants as inField
+use Rattle.calendar.specs.declared.DateField.TheVariants as in_field
 use Rattle.findings.specs.declared.Finding.{Finding}
 use Rattle.findings.specs.declared.Finding.TheVariants.{Right, Fault}
 use Rattle.findings.specs.declared.Kind.TheVariants.{Form, NotDigits, CheckDigit, NoDate, OutsideDays, NotListed, Other}
@@ -43,9 +43,9 @@ provider_found s = cond (is_provider_form s) (unless (satisfies (field 2 9 s)) C
 
 -- what is found in a date field, and what is asked of a date
 abbrev pub date_found : (ℕ → Finding) → DateField → Finding
-date_found asks (inField.Date d) = asks d
-date_found asks inField.NotDigits = Fault NotDigits
-date_found asks inField.NoDate = Fault NoDate
+date_found asks (in_field.Date d) = asks d
+date_found asks in_field.NotDigits = Fault NotDigits
+date_found asks in_field.NoDate = Fault NoDate
 
 -- of a date is asked that it is one of certain days
 abbrev pub one_of_days : (ℕ → Bool) → ℕ → Finding

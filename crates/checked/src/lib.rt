@@ -1,4 +1,6 @@
 // Fields with a check digit, a date or a list: what is found in an initiator, a date, a due date, a debit date, a bank, an account.
+#![tactic(auto)]
+
 ghost use Rattle.std.specs.Prelude.{◌≡◌};
 ghost use Rattle.account.specs.Account.{account_of};
 ghost use Rattle.lists.specs.Banks.{found_in};

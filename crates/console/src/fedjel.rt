@@ -1,6 +1,6 @@
 // What the programs that take a FEDJEL hold: the message, the file of the day's cover requests, and the clearing day (02 #103).
-use crate::{read_file, say};
-use libc::STDERR_FILENO;
+use crate::{put_number, read_file, say};
+use std::rt::Files;
 
 // The most items that the two counts of a foot, four digits each, can be right for (002 12.2).
 pub const ITEMS: usize = 19998;
@@ -15,18 +15,21 @@ pub const MESSAGE: usize = LONGEST + 1;
 pub const REQUESTS: usize = 65 * 10000 + 1;
 
 // The clearing day that the file `day` says, 0 for none. Nine bytes are no date, so more of the file isn't read.
-pub fn day() -> u32 {
+pub fn day(rt: &impl Files) -> u32 {
     let mut space = [0u8; 9];
-    let n = read_file(b"day", &mut space);
+    let n = read_file(rt, "day", &mut space);
     files::day(&space[..n])
 }
 
 // Of a longer message nothing is judged, since its front alone would be another message: on standard error, after the program's name.
-pub fn too_long(name: &[u8]) {
-    say(name);
-    say(b": over ");
-    io::print_decimal(STDERR_FILENO, LONGEST as u64);
-    say(b" bytes, the length of ");
-    io::print_decimal(STDERR_FILENO, ITEMS as u64);
-    say(b" items, the most that a FEDJEL's foot can count; nothing is judged\n");
+pub fn too_long(rt: &HostRuntime, name: &[u8]) {
+    say(rt, name);
+    say(rt, b": over ");
+    put_number(&rt.stderr(), LONGEST as u64);
+    say(rt, b" bytes, the length of ");
+    put_number(&rt.stderr(), ITEMS as u64);
+    say(
+        rt,
+        b" items, the most that a FEDJEL's foot can count; nothing is judged\n",
+    );
 }

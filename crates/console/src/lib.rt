@@ -1,30 +1,76 @@
-// What the programs share of input and output: a file's bytes into lent space, the number of an argument, standard output and standard
-// error; and for those that take a FEDJEL what they hold (`fedjel`). No contract can say what is written to a stream, so the functions that
-// only write have none.
+// What the programs share of input and output: the bytes of a file, of standard input or of an argument into lent space, the number of an
+// argument, standard output and standard error; and for those that take a FEDJEL what they hold (`fedjel`). No contract can say what is
+// written to a stream, so the functions that only write have none; a write that fails is passed over.
+#![tactic(auto)]
+
 ghost use Rattle.std.specs.Prelude.{◌≡◌};
-ghost use Rattle.io.specs.Counts.{IsPrefixLen};
+ghost use Rattle.console.specs.Counts.{IsPrefixLen};
 ghost use Rattle.console.specs.Arguments.{number_of_word};
 
 use lent::Refusal;
-use libc::{STDERR_FILENO, STDOUT_FILENO};
+use std::env::FillError;
+use std::fs::File;
+use std::io::{ErrorKind, Read};
+use std::rt::{Env, Files};
 
 pub mod fedjel;
 
-// A file's bytes at the front of the space, and how many; none of a file that is missing or can't be read.
-pub fn read_file(path: &[u8], space: &mut [u8]) -> usize
+// Bytes of the input at the front of the space, and how many: until the space is full, the input ends or a read fails. A read that a signal
+// interrupts is tried again. A proved loop has to end: this one has more turns than any run uses up.
+pub fn read_full(input: &mut impl Read, space: &mut [u8]) -> usize
     ensures { IsPrefixLen result space.new }
 {
-    let fd = os::open_read(path);
-    if fd < 0 {
-        return 0;
+    let mut done = 0;
+    for _ in 0..u64::MAX {
+        if done >= space.len() {
+            break;
+        }
+        match input.read(&mut space[done..]) {
+            Ok(0) => break,
+            Ok(n) => done += n,
+            Err(e) => {
+                if e.kind() != ErrorKind::Interrupted {
+                    break;
+                }
+            }
+        }
     }
-    let n = io::read_full(fd, space);
-    libc::close(fd);
-    n
+    done
+}
+
+// A file's bytes at the front of the space, and how many; none of a file that is missing or can't be read.
+pub fn read_file(rt: &impl Files, path: &str, space: &mut [u8]) -> usize
+    ensures { IsPrefixLen result space.new }
+{
+    let Ok(mut file) = File::open(rt, path) else {
+        return 0;
+    };
+    read_full(&mut file, space)
+}
+
+// How many arguments the program was started with, its own name among them.
+pub fn argument_count(rt: &impl Env) -> usize {
+    let mut none = [0u8; 0];
+    for i in 0..usize::MAX {
+        if let Err(FillError::NotPresent) = rt.arg(i, &mut none) {
+            return i;
+        }
+    }
+    usize::MAX
+}
+
+// An argument's bytes at the front of the space, and how many; none of one that is missing or longer than the space.
+pub fn read_argument(rt: &impl Env, i: usize, space: &mut [u8]) -> usize
+    ensures { IsPrefixLen result space.new }
+{
+    match rt.arg(i, space) {
+        Ok(n) => n,
+        Err(_) => 0,
+    }
 }
 
 // What an argument of digits says.
-#[derive(Drop)]
+#[derive(Clone, Copy)]
 pub enum Argument {
     Number(u32),
     Wrong,
@@ -44,30 +90,30 @@ pub fn number_of(s: &[u8], least: usize, most: usize) -> Argument
     Argument::Number(n)
 }
 
-// Bytes on standard output.
-pub fn put(s: &[u8]) {
-    io::write_all(STDOUT_FILENO, s);
+// Bytes on a stream: the runtime's own is standard output.
+pub fn put(rt: &impl Print, s: &[u8]) {
+    let _ = rt.write_all(s);
 }
 
-// A number on standard output.
-pub fn put_number(n: u64) {
-    io::print_decimal(STDOUT_FILENO, n);
+// A number on a stream.
+pub fn put_number(rt: &impl Print, n: u64) {
+    let _ = rt.print(n);
 }
 
-// A number after a space, on standard output.
-pub fn put_next(n: u64) {
-    put(b" ");
-    put_number(n);
+// A number after a space, on a stream.
+pub fn put_next(rt: &impl Print, n: u64) {
+    put(rt, b" ");
+    put_number(rt, n);
 }
 
 // Bytes on standard error.
-pub fn say(s: &[u8]) {
-    io::write_all(STDERR_FILENO, s);
+pub fn say(rt: &HostRuntime, s: &[u8]) {
+    put(&rt.stderr(), s);
 }
 
 // The line of a refusal on a stream: standard error, or standard output where it is the answer.
-pub fn refuse(stream: i32, r: Refusal) {
+pub fn refuse(rt: &impl Print, r: Refusal) {
     let mut line = [0u8; 32];
     let n = lines::slip::put_refusal(&mut line, r);
-    io::write_all(stream, &line[..n]);
+    put(rt, &line[..n]);
 }

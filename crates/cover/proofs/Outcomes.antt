@@ -124,7 +124,8 @@ module _ (e : ℕ) (l m : List ℕ) where
                 let s : some (rightly q) (items_of m) ≡ true = answered ∙ lt-ltb k n b in
                 let w : x ≡ answer_of (get_or (items_of m) (place_of e l m id) []) =
                 u ∙ answer_lent m k (omega (arith, b, c)) ∙ ap (λ (i : ℕ). answer_of (get_or (items_of m) i [])) at_place in
-                let z : y ≡ number_of (field 50 65 q) = v ∙ ap number_of (sum_lent l j) ∙ ap (λ (r : List ℕ). number_of (field 50 65 r)) (sym (lent l id p h)) in
+                let z : y ≡ number_of (field 50 65 q) =
+                v ∙ ap number_of (sum_lent l j) ∙ ap (λ (r : List ℕ). number_of (field 50 65 r)) (sym (lent l id p h)) in
                 ap (λ (i : ℕ). standing.Item i x y) at_place
                 ∙ ap (λ (i : ℕ). standing.Item (place_of e l m id) i y) w
                 ∙ ap (standing.Item (place_of e l m id) (answer_of (get_or (items_of m) (place_of e l m id) []))) z
@@ -173,7 +174,8 @@ unfolding lent_refused
 dated e l m d = go (is_date e) d
   where
     go : (a : Bool)
-        → cond a (cond (is_request_list l) (cond (is_fedjel m) Done (RefusedBy refusal.Fedjel)) (RefusedBy refusal.RequestList)) (RefusedBy refusal.NotADay) ≡ Done
+        → cond a (cond (is_request_list l) (cond (is_fedjel m) Done (RefusedBy refusal.Fedjel)) (RefusedBy refusal.RequestList)) (RefusedBy refusal.NotADay)
+        ≡ Done
         → a ≡ true
     go true d = refl
     go false d = absurd (omega (arith, ap outcome_number d))

@@ -39,15 +39,15 @@ refused = message (ascii "03") (ascii "0") (ascii "00000000000000000000") (ascii
 -- code 00, one item with code 0, which stands
 pub example_fedjel : (judged 20200310 request covered (9 ∷ 9 ∷ []) ≡ Judged 0 1) × (table_by 20200310 request covered (9 ∷ 9 ∷ []) ≡ 0 ∷ 9 ∷ [])
 unfolding over judged table_by lent_refused is_request_list are_requests is_fedjel ended code_with message_rows is_plain_message head_rows sent_on date_field
-    is_number number_of keeps whole_rows_of_all whole_rows is_typed last_rows foot_rows typed_rows joint_rows are_together is_type amount_of item_code codes_to has_id
-    request_of rightly together days_back workday_before leap is_date days_of_years days_of_months days_to day_number
+    is_number number_of keeps whole_rows_of_all whole_rows is_typed last_rows foot_rows typed_rows joint_rows are_together is_type amount_of item_code codes_to
+    has_id request_of rightly together days_back workday_before leap is_date days_of_years days_of_months days_to day_number
 example_fedjel = (refl, refl)
 
 pub example_standing :
     (standing_of 20200310 request covered id ≡ standing.Item 0 0x31 12345) × (standing_of 20200310 request refused id ≡ standing.Item 0 0x30 12345)
-unfolding standing_of is_answered lent_refused is_request_list are_requests is_fedjel ended code_with message_rows is_plain_message head_rows sent_on date_field is_number
-    number_of keeps whole_rows_of_all whole_rows is_typed last_rows foot_rows typed_rows joint_rows are_together is_type amount_of item_code codes_to has_id request_of rightly
-    together days_back workday_before leap is_date days_of_years days_of_months days_to day_number
+unfolding standing_of is_answered lent_refused is_request_list are_requests is_fedjel ended code_with message_rows is_plain_message head_rows sent_on date_field
+    is_number number_of keeps whole_rows_of_all whole_rows is_typed last_rows foot_rows typed_rows joint_rows are_together is_type amount_of item_code codes_to
+    has_id request_of rightly together days_back workday_before leap is_date days_of_years days_of_months days_to day_number
 example_standing = (refl, refl)
 
 -- E is a Monday: Friday to Monday; E is a Tuesday: Monday; E is the first date

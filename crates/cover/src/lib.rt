@@ -1,5 +1,7 @@
 // A FEDJEL judged against the day's cover requests: its message code, its items' codes, and the standing answer to a request (02 #103;
 // 002 sections 12.1 to 12.4).
+#![tactic(auto)]
+
 ghost use Rattle.std.specs.Prelude.{◌≡◌};
 ghost use Rattle.cover.specs.Judging.{lent_refused, JudgedAs, standing_of};
 
@@ -12,14 +14,14 @@ mod foot;
 mod head;
 
 // What judging gives: the message code and the number of items, or why there is none.
-#[derive(Drop)]
+#[derive(Clone, Copy)]
 pub enum Answer {
     Judged { code: u8, items: usize },
     Refused(Refusal),
 }
 
 // The standing answer to a request, or why there is none: the item's place, counted from 0, its answer and the request's sum.
-#[derive(Drop)]
+#[derive(Clone, Copy)]
 pub enum Standing {
     Item { place: usize, answer: u8, sum: u64 },
     Refused(Refusal),

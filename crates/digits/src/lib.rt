@@ -1,4 +1,6 @@
 // Decimal fields: their digits, their numbers, and writing a number.
+#![tactic(auto)]
+
 ghost use Rattle.std.specs.Prelude.{◌≡◌, ◌≤◌, ◌<◌, ◌^◌, length, ltb};
 ghost use Rattle.base.specs.Bytes.{over};
 ghost use Rattle.digits.specs.Digits.{

@@ -1,5 +1,7 @@
 // Marks and numbers: what is found in a record's type, an item's number, an amount and a total; and whether a byte is the duplicate code
 // of a STATUS.
+#![tactic(auto)]
+
 ghost use Rattle.std.specs.Prelude.{◌≡◌, [], ◌∷◌};
 ghost use Rattle.digits.specs.Digits.{number_of};
 ghost use Rattle.fields.specs.Fields.{
@@ -15,7 +17,7 @@ ghost use Rattle.fields.specs.Fields.{
 use findings::{Finding, Kind};
 
 // An amount's number, and what is found in its field.
-#[derive(Drop)]
+#[derive(Clone, Copy)]
 pub struct Amount {
     pub value: u64,
     pub found: Finding,

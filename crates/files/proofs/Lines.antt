@@ -79,7 +79,8 @@ module _ {s : List ℕ} {least k : ℕ} (w : Walked s least k) where
       simp z at w.left
 
   module _ (h : k < length s / 9) (r : Bool) (e : r ≡ is_line (take (k * 9 + 9 - k * 9) (drop (k * 9) s))) where
-    turn : r && (leb least (number_of (take 8 (drop (k * 9) s))) && rises (number_of (take 8 (drop (k * 9) s)) + 1) (length s / 9 - (k + 1)) (drop (k * 9 + 9) s))
+    turn :
+        r && (leb least (number_of (take 8 (drop (k * 9) s))) && rises (number_of (take 8 (drop (k * 9) s)) + 1) (length s / 9 - (k + 1)) (drop (k * 9 + 9) s))
         ≡ ordered s
     turn =
         let z : length s / 9 - k ≡ suc (length s / 9 - (k + 1)) = omega arith in

@@ -1,5 +1,7 @@
 // The files that the clearing day and the lists come from: `day`, `banks` and `known` (01, Examples, the slip program).
 // A missing file counts as empty: its bytes are an empty slice.
+#![tactic(auto)]
+
 ghost use Rattle.std.specs.Prelude.{◌≡◌, ◌/◌, ◌≤◌, length};
 ghost use Rattle.base.specs.Bytes.{over};
 ghost use Rattle.files.specs.Files.{day_of, is_line, numbers, ordered, is_banks, is_known_file, ReadAs};
@@ -20,7 +22,7 @@ const LINE: usize = 9;
 pub const BANKS: usize = LENGTH / LINE;
 
 // What the three files say.
-#[derive(Drop)]
+#[derive(Clone, Copy)]
 pub enum Given {
     // The clearing day, and how many banks there are.
     Files { day: u32, banks: usize },

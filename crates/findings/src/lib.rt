@@ -1,12 +1,14 @@
 // What is found in a field: nothing wrong, or the kind of its first fault; the code that follows from it; and the answer that names the
 // field (01, Calls and their answers).
+#![tactic(auto)]
+
 ghost use Rattle.std.specs.Prelude.{◌≡◌};
 ghost use Rattle.frame.specs.Machine.{earlier};
 ghost use Rattle.findings.specs.Findings.{unless, kind_number};
 ghost use Rattle.findings.specs.Codes.{Ü, always, whole_code, either_code};
 
 // The kinds of fault, in 01's order as 02 #102 amends it: four are an account's alone.
-#[derive(Drop)]
+#[derive(Clone, Copy)]
 pub enum Kind {
     Letter,
     Mark,
@@ -26,14 +28,14 @@ pub enum Kind {
     Other,
 }
 
-#[derive(Drop)]
+#[derive(Clone, Copy)]
 pub enum Finding {
     Right,
     Fault(Kind),
 }
 
 // The answer on a single record: acceptance, a refusal, or the field named with the kind of its fault.
-#[derive(Drop)]
+#[derive(Clone, Copy)]
 pub enum Answer {
     Accepted,
     Refused(lent::Refusal),

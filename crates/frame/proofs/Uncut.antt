@@ -13,7 +13,7 @@ use Rattle.base.proofs.Every.{both}
 use Rattle.frame.specs.declared.Found.{Found}
 use Rattle.frame.specs.declared.Told.{Told}
 use Rattle.frame.specs.Records.{Sizes, lengths, no_id, ended, is_foot, item_stands, foot_stands, items_in, rest_after}
-use Rattle.frame.specs.Verdict.{Rules, Verdict, blank, overflow, given, counted, findings, message_code, identifier, told_by, verdict, table_after}
+use Rattle.frame.specs.Verdict.{Rules, Verdict, blank, given, findings, message_code, identifier, told_by, verdict, table_after}
 use Rattle.frame.specs.Machine.{State, fresh, at, items, size, head_read, item_tally, item_counted, item_read, foot_tally, foot_read, judged, run, closing}
 use Rattle.frame.proofs.Pieces.{foot_front, run_kept, run_record, run_broken, run_overflown, run_after}
 use Rattle.frame.proofs.Counting.{tallied, counted_items, counted_length}

@@ -15,30 +15,8 @@ use Rattle.frame.specs.declared.Totals.{Totals}
 use Rattle.frame.specs.declared.Tally.{Tally}
 use Rattle.frame.specs.declared.Closing.{Closing}
 use Rattle.frame.specs.Records.{Sizes, lengths, id_of, ended, foot_stands, items_in, rest_after, head_of}
-use Rattle.frame.specs.Verdict.{
-  Rules,
-  Verdict,
-  first,
-  any,
-  accepted,
-  refused,
-  total,
-  totals_of,
-  none,
-  watched,
-  blank,
-  overflow,
-  given,
-  counted,
-  findings,
-  found_in,
-  message_code,
-  identifier,
-  told_by,
-  overflows,
-  verdict,
-  table_after,
-}
+use Rattle.frame.specs.Verdict.{Rules, Verdict, first, any, accepted, refused, total, totals_of, none, watched, blank, overflow, given, counted, findings}
+use Rattle.frame.specs.Verdict.{found_in, message_code, identifier, told_by, verdict, table_after}
 use Rattle.frame.specs.Machine.{State, fresh, at, items, sum, earlier, numbers, head_tally, head_read, foot_tally, foot_read, run, closing, runs, joined}
 use Rattle.frame.proofs.Pieces.{run_append}
 use Rattle.frame.proofs.Counting.{

@@ -1,4 +1,5 @@
 // Records of a message: the cutter, and the definitions of the verdict and of the reading by pieces for any field rules.
+#![tactic(auto)]
 
 ghost use Rattle.std.specs.Prelude.{◌≡◌, ◌≤◌, length};
 ghost use Rattle.frame.specs.Records.{head_end, id_of, ended, is_foot};
@@ -6,7 +7,7 @@ ghost use Rattle.frame.specs.Places.{foot_at, later_at, record_at};
 
 // What is found in an item: a bad letter in its text, the code of its first Ü fault and of its first T fault (0 where it
 // has none), its amount, and whether its account is one of zeros.
-#[derive(Drop)]
+#[derive(Clone, Copy)]
 pub struct Found {
     pub letter: bool,
     pub fault: u8,
@@ -16,14 +17,14 @@ pub struct Found {
 }
 
 // How many items, and the sum of their amounts.
-#[derive(Drop)]
+#[derive(Clone, Copy)]
 pub struct Totals {
     pub count: u64,
     pub sum: u64,
 }
 
 // What the head tells the rules of its items: the kind of message, and whether its bank is barred (02 #101, #105).
-#[derive(Drop)]
+#[derive(Clone, Copy)]
 pub struct Told {
     pub kind: u8,
     pub barred: bool,
@@ -31,7 +32,7 @@ pub struct Told {
 
 // What was counted and found so far. Phase 0: in the head; 1: after it; 2: the foot is read; 3: broken; 4: overflow; 5: closed.
 // What the head told is all that the rules of items may take from it. The code is the first fault of head, items and foot.
-#[derive(Drop)]
+#[derive(Clone, Copy)]
 pub struct Tally {
     pub phase: u8,
     pub letter: bool,
@@ -44,7 +45,7 @@ pub struct Tally {
 }
 
 // What closing gives: the message code, the kind of message, accepted count and sum, refused count and sum, the zero watch, the identifier.
-#[derive(Drop)]
+#[derive(Clone, Copy)]
 pub struct Closing {
     pub code: u8,
     pub kind: u32,
@@ -56,7 +57,7 @@ pub struct Closing {
 
 // What a STATUS says: duplicate code, the order's positions 10-34, the reply's date, number and time, the message code,
 // the four totals, and how many references there are.
-#[derive(Drop)]
+#[derive(Clone, Copy)]
 pub struct Status {
     pub duplicate: u8,
     pub id: [u8; 25],
@@ -109,7 +110,7 @@ pub fn is_foot(x: &[u8]) -> bool
 }
 
 // What stands at a position of a message: a record, with its start and the next position; a break; or the end.
-#[derive(Drop)]
+#[derive(Clone, Copy)]
 pub enum Record {
     Head { start: usize, next: usize },
     Item { start: usize, next: usize },

@@ -1,4 +1,6 @@
 // The head of a message of either kind: what is found in its fields, its code, and what it tells its items (002 sections 1.1.1 and 2.1.1).
+#![tactic(auto)]
+
 ghost use Rattle.std.specs.Prelude.{◌≡◌, length};
 ghost use Rattle.base.specs.Bytes.{field, same};
 ghost use Rattle.digits.specs.Digits.{number_of};
@@ -13,14 +15,14 @@ ghost use Rattle.heads.specs.Heads.{atutal_fields, as_beszed, head_fields, head_
 use findings::{Finding, Kind, found, ranked};
 
 // What is found in a head: a bad letter in its text, and the code of its first fault, 0 where it has none.
-#[derive(Drop)]
+#[derive(Clone, Copy)]
 pub struct HeadFound {
     pub letter: bool,
     pub code: u8,
 }
 
 // What is found in the fields of a head that have a rule, in their order.
-#[derive(Drop)]
+#[derive(Clone, Copy)]
 pub struct HeadFindings {
     pub mark: Finding,
     pub message: Finding,

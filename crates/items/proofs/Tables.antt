@@ -11,7 +11,6 @@ use Rattle.findings.specs.declared.Finding.TheVariants.{Right}
 use Rattle.items.specs.declared.item.ItemFindings.{ItemFindings}
 use Rattle.findings.specs.Codes.{Ü, T, Rule, always, digits_else, whole_code, item_code, first_whole, first_alone, either_code}
 use Rattle.findings.specs.Naming.{first_named}
-use Rattle.fields.specs.Fields.{amount_of}
 use Rattle.checked.specs.Checked.{due_found}
 use Rattle.atutal.specs.Tables as atutal
 use Rattle.beszed.specs.Tables as beszed
@@ -92,8 +91,8 @@ module _ (kind e : ℕ) (is_listed : ℕ → Bool) (k : ℕ) (r : List ℕ) wher
 
   -- what two lists of rows both give
   module _ {A : Type 0} (g : List Rule → A)
-      (b : g (rules_of (due_by (due_found e (field 9 16 r)))) ≡ g (beszed.itemRules e is_listed k r))
-      (a : g (rules_of (due_by Right)) ≡ g (atutal.itemRules is_listed k r)) where
+      (b : g (rules_of (due_by (due_found e (field 9 16 r)))) ≡ g (beszed.item_rules e is_listed k r))
+      (a : g (rules_of (due_by Right)) ≡ g (atutal.item_rules is_listed k r)) where
     by_kind : g (rules_of (item_fields kind e is_listed k r)) ≡ g (item_rules kind e is_listed k r)
     unfolding item_fields due_in item_rules tables
     by_kind = go (is_beszed kind)
@@ -101,19 +100,19 @@ module _ (kind e : ℕ) (is_listed : ℕ → Bool) (k : ℕ) (r : List ℕ) wher
         go : (t : Bool)
             → g (rules_of (due_by (cond t (due_found e (field 9 16 r)) Right)))
             ≡ g ((cond {A = Tables} t
-            (record { head = beszed.headRules e is_listed; item = beszed.itemRules e is_listed })
-            (record { head = atutal.headRules e is_listed; item = atutal.itemRules is_listed })).item k r)
+            (record { head = beszed.head_rules e is_listed; item = beszed.item_rules e is_listed })
+            (record { head = atutal.head_rules e is_listed; item = atutal.item_rules is_listed })).item k r)
         go true = b
         go false = a
 
   pub same_fault : first_whole (rules_of (item_fields kind e is_listed k r)) ≡ first_whole (item_rules kind e is_listed k r)
-  unfolding rules_of item_fields atutal.itemRules beszed.itemRules
+  unfolding rules_of item_fields atutal.item_rules beszed.item_rules
   same_fault = by_kind first_whole refl refl
 
   pub same_code : first_alone (rules_of (item_fields kind e is_listed k r)) ≡ first_alone (item_rules kind e is_listed k r)
-  unfolding rules_of item_fields atutal.itemRules beszed.itemRules
+  unfolding rules_of item_fields atutal.item_rules beszed.item_rules
   same_code = by_kind first_alone refl refl
 
   pub same_name : first_named (rules_of (item_fields kind e is_listed k r)) ≡ first_named (item_rules kind e is_listed k r)
-  unfolding rules_of item_fields atutal.itemRules beszed.itemRules
+  unfolding rules_of item_fields atutal.item_rules beszed.item_rules
   same_name = by_kind first_named refl refl

@@ -10,7 +10,7 @@ use fields::Amount;
 use findings::{Finding, Kind, found, ranked, ranked_else};
 
 // What is found in the fields of an item that have a rule, in their order; with the amount its number.
-#[derive(Drop)]
+#[derive(Clone, Copy)]
 pub struct ItemFindings {
     pub mark: Finding,
     pub number: Finding,

@@ -103,7 +103,7 @@ module _ (s : Tally) where
   close_right p l d = rw (p, l, d)
 
 -- a head is read
-pub head_read : (l : Lent) (r : List ℕ) (s : Tally) (f : HeadFound) (k : Told) (i : List ℕ)
+pub head_read_lem : (l : Lent) (r : List ℕ) (s : Tally) (f : HeadFound) (k : Told) (i : List ℕ)
     → f ≡ head_found l.day (found_in l.lists.banks) l.lists.known r → k ≡ (rules l).tells r → i ≡ id_of r
     → ◌≡◌ {A = Tally} (record {
       phase = 1;
@@ -117,7 +117,7 @@ pub head_read : (l : Lent) (r : List ℕ) (s : Tally) (f : HeadFound) (k : Told)
     })
     (head_tally (rules l) s r)
 unfolding head_tally head_found
-head_read l r s f k i p o q = rw (p, o, q)
+head_read_lem l r s f k i p o q = rw (p, o, q)
 
 -- what is found in an item is counted
 pub item_counted_lem : (s : Tally) (f : Found) (d : ℕ) (a b : Totals) (z : ℕ) → d ≡ earlier s.code f.fault

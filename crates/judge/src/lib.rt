@@ -1,5 +1,7 @@
 // The judge by pieces: a session is a value; each piece of a message yields the session to use next, and closing gives the
 // verdict. A session and the caller's table are all the memory that it needs, whatever the message's size.
+#![tactic(auto)]
+
 ghost use Rattle.std.specs.Prelude.{◌≡◌, cond, [], ◌+◌, ◌≤◌, ◌<◌, length, take, drop};
 ghost use Rattle.lent.specs.Lent.{listed, lent};
 ghost use Rattle.frame.specs.Verdict.{blank};
@@ -28,7 +30,7 @@ use frame::{Closing, Tally, Told, Totals};
 use lent::{Outcome, Refusal};
 
 // A session: the clearing day, the table's length, what was counted, and the bytes of the record begun with zeros after them.
-#[derive(Drop)]
+#[derive(Clone, Copy)]
 pub struct Session {
     pub day: u32,
     pub room: usize,
@@ -38,14 +40,14 @@ pub struct Session {
 }
 
 // What a call that takes or opens a session gives back.
-#[derive(Drop)]
+#[derive(Clone, Copy)]
 pub struct Taken {
     pub outcome: Outcome,
     pub next: Session,
 }
 
 // What taking a piece gives where the session is in parts.
-#[derive(Drop)]
+#[derive(Clone, Copy)]
 pub struct Step {
     pub tally: Tally,
     pub fill: usize,
@@ -53,7 +55,7 @@ pub struct Step {
 }
 
 // What closing a session gives.
-#[derive(Drop)]
+#[derive(Clone, Copy)]
 pub struct Closed {
     pub outcome: Outcome,
     pub closing: Closing,
@@ -61,7 +63,7 @@ pub struct Closed {
 }
 
 // What judging a whole message gives (`message::judge`).
-#[derive(Drop)]
+#[derive(Clone, Copy)]
 pub struct Judged {
     pub outcome: Outcome,
     pub closing: Closing,
@@ -289,7 +291,7 @@ fn record_read(
 }
 
 // A tally, and how far into the piece whole records went.
-#[derive(Drop)]
+#[derive(Clone, Copy)]
 pub struct Walked {
     pub tally: Tally,
     pub at: usize,
@@ -325,7 +327,7 @@ fn walk(
 }
 
 // What a piece leaves: the tally, and how many bytes are held of a record begun.
-#[derive(Drop)]
+#[derive(Clone, Copy)]
 struct Left {
     tally: Tally,
     fill: usize,

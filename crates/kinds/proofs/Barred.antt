@@ -18,9 +18,9 @@ use Rattle.fields.specs.Fields.{digits_of}
 use Rattle.kinds.specs.Kinds.{BESZED, kind_of, is_beszed, told_of}
 use Rattle.kinds.specs.Codes.{item_found, under_bar, rules_by, rules_unbarred}
 
-module _ (e : ℕ) (is_listed : ℕ → Bool) (known : List ℕ) (isBarred : ℕ → Bool) (m : List ℕ) where
+module _ (e : ℕ) (is_listed : ℕ → Bool) (known : List ℕ) (is_barred : ℕ → Bool) (m : List ℕ) where
   abbrev R : Rules
-  R = rules_by e is_listed known isBarred
+  R = rules_by e is_listed known is_barred
 
   abbrev Unbarred : Rules
   Unbarred = rules_unbarred e is_listed known
@@ -29,7 +29,7 @@ module _ (e : ℕ) (is_listed : ℕ → Bool) (known : List ℕ) (isBarred : ℕ
   is = items_of lengths m
 
   abbrev told : Told
-  told = told_of isBarred (head_of lengths m)
+  told = told_of is_barred (head_of lengths m)
 
   -- what a head with its right ending told is what its items are judged by
   head_told : (b : Bool) → head_stands lengths m ≡ b → told_by R m ≡ cond b told untold
@@ -137,7 +137,7 @@ module _ (e : ℕ) (is_listed : ℕ → Bool) (known : List ℕ) (isBarred : ℕ
       go false = refl
 
   -- where no number is on the list no head tells a bar
-  pub none_barred : ((x : ℕ) → isBarred x ≡ false) → (told_by R m).barred ≡ false
+  pub none_barred : ((x : ℕ) → is_barred x ≡ false) → (told_by R m).barred ≡ false
   unfolding told_by told_of
   none_barred h = go (head_stands lengths m)
     where

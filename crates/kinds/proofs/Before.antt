@@ -13,7 +13,8 @@ use Rattle.findings.proofs.Before.{Alike, always_alike, else_alike, whole_before
 use Rattle.atutal.specs.Tables as atutal
 use Rattle.beszed.specs.Tables as beszed
 use Rattle.kinds.specs.Kinds.{kind_of, told_of, tables}
-use Rattle.kinds.specs.Codes.{head_rules, item_rules, head_code_by, head_code, item_found_by, item_found, under_bar, item_told, rules_with, rules_by, rules_before}
+use Rattle.kinds.specs.Codes.{head_rules, item_rules, head_code_by, head_code, item_found_by, item_found, under_bar, item_told, rules_with, rules_by}
+use Rattle.kinds.specs.Codes.{rules_before}
 use Rattle.kinds.proofs.Tables.{of_both}
 
 -- each rule's codes are shared
@@ -28,7 +29,7 @@ same_item_found rs h r = rw (whole_before rs h, alone_before rs h)
 
 module _ (e : ℕ) (is_listed : ℕ → Bool) where
   alike : (kind k : ℕ) (known r : List ℕ) → AllAlike ((tables kind e is_listed).head known r) × AllAlike ((tables kind e is_listed).item k r)
-  unfolding tables atutal.headRules atutal.itemRules beszed.headRules beszed.itemRules
+  unfolding tables atutal.head_rules atutal.item_rules beszed.head_rules beszed.item_rules
   alike kind k known r =
       let one : (c : Code) → Alike (always c) = always_alike in
       let place = else_alike (T 39) (T 32) in
@@ -51,8 +52,8 @@ module _ (e : ℕ) (is_listed : ℕ → Bool) where
   item_before kind k r = same_item_found (item_rules kind e is_listed k r) (alike kind k r r).1 r
 
   -- so all that is defined by a message's rules is as before: verdict, code table, closing, reply, slip
-  pub rules_before_lem : (known : List ℕ) (isBarred : ℕ → Bool) → rules_by e is_listed known isBarred ≡ rules_before e is_listed known isBarred
-  rules_before_lem known isBarred =
-      ap (λ (h : List ℕ → ℕ). rules_with (told_of isBarred) h (λ told k r. item_told told e is_listed k r)) (fun_ext (head_before known))
-      ∙ ap (λ (i : Told → ℕ → List ℕ → Found). rules_with (told_of isBarred) (λ r. head_code_by (map rule_before (head_rules e is_listed known r)) r) i)
+  pub rules_before_lem : (known : List ℕ) (is_barred : ℕ → Bool) → rules_by e is_listed known is_barred ≡ rules_before e is_listed known is_barred
+  rules_before_lem known is_barred =
+      ap (λ (h : List ℕ → ℕ). rules_with (told_of is_barred) h (λ told k r. item_told told e is_listed k r)) (fun_ext (head_before known))
+      ∙ ap (λ (i : Told → ℕ → List ℕ → Found). rules_with (told_of is_barred) (λ r. head_code_by (map rule_before (head_rules e is_listed known r)) r) i)
       (fun_ext (λ told. fun_ext (λ k. fun_ext (λ r. ap (under_bar told.barred) (item_before told.kind k r)))))

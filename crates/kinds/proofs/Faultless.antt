@@ -23,9 +23,9 @@ use Rattle.findings.specs.declared.Kind.TheVariants.{Mark, NotDigits, BlankOrZer
 use Rattle.findings.specs.declared.Finding.{Finding}
 use Rattle.findings.specs.declared.Finding.TheVariants.{Right, Fault}
 use Rattle.findings.specs.Findings.{unless}
-use Rattle.findings.specs.Codes.{Ü, T, Rule, always, digits_else, first_whole, first_alone}
+use Rattle.findings.specs.Codes.{Ü, T, always, digits_else, first_whole, first_alone}
 use Rattle.findings.specs.Faults.{is_whole, is_code, codes_pass}
-use Rattle.findings.proofs.Faults.{spoils, AllRight, NoneSpoils, none_spoils, no_code, all_right, right_spares}
+use Rattle.findings.proofs.Faults.{spoils, NoneSpoils, none_spoils, no_code, all_right, right_spares}
 use Rattle.fields.specs.Fields.{digits_of, place_found, amount_found, filled_found}
 use Rattle.checked.specs.Checked.{bank_found, account_found, due_found}
 use Rattle.atutal.specs.Tables as atutal
@@ -75,7 +75,7 @@ module _ (e : ℕ) (is_listed : ℕ → Bool) (k : ℕ) (r : List ℕ) where
   some = not (eqb (number_of (field 17 26 r)) 0)
 
   item_right : (kind : ℕ) → NoneSpoils (item_rules kind e is_listed k r) → ItemRight r
-  unfolding item_rules tables atutal.itemRules beszed.itemRules amount_found
+  unfolding item_rules tables atutal.item_rules beszed.item_rules amount_found
   item_right =
       of_both e is_listed (λ t. NoneSpoils (t.item k r) → ItemRight r)
       (λ n. record { mark = type_right two n.0; amount = amount_right ten some n.1.1.1.0 })
@@ -104,15 +104,15 @@ module _ (e : ℕ) (is_listed : ℕ → Bool) (k : ℕ) (r : List ℕ) where
   )
 
   right_item : ItemRight r → (kind : ℕ) → NoneSpoils (item_rules kind e is_listed k r)
-  unfolding item_rules tables atutal.itemRules beszed.itemRules
+  unfolding item_rules tables atutal.item_rules beszed.item_rules
   right_item h =
       of_both e is_listed (λ t. NoneSpoils (t.item k r))
       (type_spares two h.mark, (number_row, (alone 33 (due_found e (field 9 16 r)), rest_rows h)))
       (type_spares two h.mark, (number_row, rest_rows h))
 
-module _ (e : ℕ) (is_listed : ℕ → Bool) (known : List ℕ) (isBarred : ℕ → Bool) where
+module _ (e : ℕ) (is_listed : ℕ → Bool) (known : List ℕ) (is_barred : ℕ → Bool) where
   abbrev R : Rules
-  R = rules_by e is_listed known isBarred
+  R = rules_by e is_listed known is_barred
 
   -- a whole head
   module _ (r : List ℕ) (h : length r ≡ 174) where
@@ -203,7 +203,7 @@ module _ (e : ℕ) (is_listed : ℕ → Bool) (known : List ℕ) (isBarred : ℕ
     foot = foot_of lengths m
 
     abbrev told : Told
-    told = told_of isBarred head
+    told = told_of is_barred head
 
     -- code 00 means that there is no fault
     pub faultless : message_code R m ≡ 0 → Faultless e is_listed known m

@@ -23,9 +23,9 @@ ten_digits : {n : ℕ} → n < 10 ^ 10 → n ≤ most_amount
 ten_digits h = omega arith
 
 -- either kind's number, and 0 under a bar
-can_tell : (isBarred : ℕ → Bool) (r : List ℕ) → CanTell (told_of isBarred r)
+can_tell : (is_barred : ℕ → Bool) (r : List ℕ) → CanTell (told_of is_barred r)
 unfolding told_of kind_of
-can_tell isBarred r = go (same (field 3 8 r) (ascii "BESZED")) (is_barred_bank isBarred r)
+can_tell is_barred r = go (same (field 3 8 r) (ascii "BESZED")) (is_barred_bank is_barred r)
   where
     go : (b c : Bool) → cond b 1 0 ≤ most_kind (not (is_beszed (cond b 1 0)) && c)
     go true c = omega arith

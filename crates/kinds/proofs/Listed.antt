@@ -19,4 +19,4 @@ found_is top xs b = fun_ext (λ x. exact xs x (both (ascends xs) (every (λ y. l
 pub by_membership : (l : Lent) → is_bank_list l.lists.banks ≡ true → is_barred_list l.lists.barred ≡ true → rules l ≡ member_rules l
 by_membership l b d =
     ap (λ (is_listed : ℕ → Bool). rules_by l.day is_listed l.lists.known (found_in l.lists.barred)) (found_is 99999999 l.lists.banks b)
-    ∙ ap (λ (isBarred : ℕ → Bool). rules_by l.day (λ x. member x l.lists.banks) l.lists.known isBarred) (found_is 999 l.lists.barred d)
+    ∙ ap (λ (is_barred : ℕ → Bool). rules_by l.day (λ x. member x l.lists.banks) l.lists.known is_barred) (found_is 999 l.lists.barred d)

@@ -12,18 +12,18 @@ use Rattle.frame.proofs.Alike.{Alike, same_code, same_verdict, same_table}
 use Rattle.kinds.specs.Kinds.{kind_of, told_as, told_of}
 use Rattle.kinds.specs.Codes.{head_rules, head_code, item_told, rules_by, rules_of_kind}
 
-module _ (e : ℕ) (is_listed : ℕ → Bool) (known : List ℕ) (isBarred : ℕ → Bool) (m : List ℕ) where
+module _ (e : ℕ) (is_listed : ℕ → Bool) (known : List ℕ) (is_barred : ℕ → Bool) (m : List ℕ) where
   abbrev kind : ℕ
   kind = kind_of (head_of lengths m)
 
   abbrev R : Rules
-  R = rules_by e is_listed known isBarred
+  R = rules_by e is_listed known is_barred
 
   abbrev Own : Rules
-  Own = rules_of_kind kind e is_listed known isBarred
+  Own = rules_of_kind kind e is_listed known is_barred
 
   abbrev told : Told
-  told = told_as kind isBarred (head_of lengths m)
+  told = told_as kind is_barred (head_of lengths m)
 
   same_findings : (k : ℕ) (rs : List (List ℕ)) → findings R told k rs ≡ findings Own told k rs
   unfolding findings

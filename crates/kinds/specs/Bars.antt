@@ -40,8 +40,8 @@ pub as_02_says :
     ∷ judged debit (16000009 ∷ 61000009 ∷ []) (5 ∷ 160 ∷ [])
     ∷ []
     ≡ (0 ∷ 14 ∷ []) ∷ (1 ∷ 14 ∷ []) ∷ (0 ∷ 0 ∷ []) ∷ (0 ∷ 0 ∷ []) ∷ []
-unfolding satisfies is_ean13 is_tax_form initiator_found is_provider_form provider_found leap is_date days_of_years days_of_months days_to day_number is_within is_before
-    number_of date_field soonest next_workday workday_after is_due account_of is_zero_account purposes place_found amount_found bank_found compiled_found
-    debit_found due_found atutal.headRules atutal.itemRules beszed.headRules beszed.itemRules kind_of told_of tables head_rules item_rules head_letter head_code
-    item_found foot_code ended is_foot items_in rest_after findings message_code
+unfolding satisfies is_ean13 is_tax_form initiator_found is_provider_form provider_found leap is_date days_of_years days_of_months days_to day_number is_within
+    is_before number_of date_field soonest next_workday workday_after is_due account_of is_zero_account purposes place_found amount_found bank_found
+    compiled_found debit_found due_found atutal.head_rules atutal.item_rules beszed.head_rules beszed.item_rules kind_of told_of tables head_rules item_rules
+    head_letter head_code item_found foot_code ended is_foot items_in rest_after findings message_code
 as_02_says = refl

@@ -81,12 +81,12 @@ rules_with tells code item =
 
 -- the rules of a message, with E, which banks are listed, the known list, and which banks are barred; its head tells the items its kind and the bar
 abbrev pub rules_by : ℕ → (ℕ → Bool) → List ℕ → (ℕ → Bool) → Rules
-rules_by e is_listed known isBarred = rules_with (told_of isBarred) (head_code e is_listed known) (λ told k r. item_told told e is_listed k r)
+rules_by e is_listed known is_barred = rules_with (told_of is_barred) (head_code e is_listed known) (λ told k r. item_told told e is_listed k r)
 
 -- the rules of one kind alone, whatever kind a head tells
 abbrev pub rules_of_kind : ℕ → ℕ → (ℕ → Bool) → List ℕ → (ℕ → Bool) → Rules
-rules_of_kind kind e is_listed known isBarred =
-    rules_with (told_as kind isBarred)
+rules_of_kind kind e is_listed known is_barred =
+    rules_with (told_as kind is_barred)
     (λ r. head_code_by ((tables kind e is_listed).head known r) r)
     (λ told k r. under_bar told.barred (item_found kind e is_listed k r))
 
@@ -97,8 +97,8 @@ rules_unbarred e is_listed known =
 
 -- the rules of a message by 01's kinds of fault, the finer ones of 02 #102 taken for those that they came from
 abbrev pub rules_before : ℕ → (ℕ → Bool) → List ℕ → (ℕ → Bool) → Rules
-rules_before e is_listed known isBarred =
-    rules_with (told_of isBarred)
+rules_before e is_listed known is_barred =
+    rules_with (told_of is_barred)
     (λ r. head_code_by (map rule_before (head_rules e is_listed known r)) r)
     (λ told k r. under_bar told.barred (item_found_by (map rule_before (item_rules told.kind e is_listed k r)) r))
 

@@ -13,7 +13,6 @@ use Rattle.frame.specs.Records.{ending, ended, is_foot, items_in, rest_after}
 use Rattle.frame.specs.Verdict.{findings, found_in, message_code, told_by}
 use Rattle.fields.specs.Fields.{place_found, amount_found}
 use Rattle.checked.specs.Checked.{is_tax_form, initiator_found, is_provider_form, provider_found, compiled_found, debit_found, due_found, bank_found}
-use Rattle.lent.specs.Lent.{Lent, lent}
 use Rattle.atutal.specs.Tables as atutal
 use Rattle.beszed.specs.Tables as beszed
 use Rattle.kinds.specs.Kinds.{ATUTAL, BESZED, kind_of, told_of, tables}
@@ -42,9 +41,9 @@ codes due = map (λ f. f.code) (found_in (rules given) (one_debit (ascii "BESZED
 pub due_dates :
     map codes (ascii "20200310" ∷ ascii "20200314" ∷ ascii "20200320" ∷ ascii "20200309" ∷ ascii "20200321" ∷ ascii "20200323" ∷ [])
     ≡ (0 ∷ []) ∷ (0 ∷ []) ∷ (0 ∷ []) ∷ (33 ∷ []) ∷ (33 ∷ []) ∷ (33 ∷ []) ∷ []
-unfolding satisfies is_ean13 is_tax_form initiator_found is_provider_form provider_found leap is_date days_of_years days_of_months days_to day_number is_within is_before
-    number_of date_field soonest next_workday workday_after is_due account_of is_zero_account place_found amount_found bank_found due_found
-    beszed.headRules beszed.itemRules kind_of told_of tables head_rules item_rules item_found ended is_foot items_in rest_after findings
+unfolding satisfies is_ean13 is_tax_form initiator_found is_provider_form provider_found leap is_date days_of_years days_of_months days_to day_number is_within
+    is_before number_of date_field soonest next_workday workday_after is_due account_of is_zero_account place_found amount_found bank_found due_found
+    beszed.head_rules beszed.item_rules kind_of told_of tables head_rules item_rules item_found ended is_foot items_in rest_after findings
 due_dates = refl
 
 -- its kind and its code
@@ -71,8 +70,8 @@ pub kinds_and_codes :
     ∷ (BESZED ∷ 26 ∷ [])
     ∷ (ATUTAL ∷ 26 ∷ [])
     ∷ []
-unfolding satisfies is_ean13 is_tax_form initiator_found is_provider_form provider_found leap is_date days_of_years days_of_months days_to day_number is_within is_before
-    number_of date_field soonest next_workday workday_after is_due account_of is_zero_account purposes place_found amount_found bank_found compiled_found
-    debit_found due_found atutal.headRules atutal.itemRules beszed.headRules beszed.itemRules kind_of told_of tables head_rules item_rules head_letter head_code
-    item_found foot_code ended is_foot items_in rest_after findings message_code told_by
+unfolding satisfies is_ean13 is_tax_form initiator_found is_provider_form provider_found leap is_date days_of_years days_of_months days_to day_number is_within
+    is_before number_of date_field soonest next_workday workday_after is_due account_of is_zero_account purposes place_found amount_found bank_found
+    compiled_found debit_found due_found atutal.head_rules atutal.item_rules beszed.head_rules beszed.item_rules kind_of told_of tables head_rules item_rules
+    head_letter head_code item_found foot_code ended is_foot items_in rest_after findings message_code told_by
 kinds_and_codes = refl

@@ -17,7 +17,6 @@ use Rattle.fields.specs.Fields.{place_found, amount_found}
 use Rattle.checked.specs.Checked.{is_tax_form, initiator_found, compiled_found, debit_found, bank_found}
 use Rattle.lent.specs.Lent.{Lent, lent}
 use Rattle.atutal.specs.Tables as atutal
-use Rattle.beszed.specs.Tables as beszed
 use Rattle.kinds.specs.Kinds.{kind_of, told_of, tables}
 use Rattle.kinds.specs.Codes.{head_rules, item_rules, head_letter, head_code, item_found, foot_code, rules}
 
@@ -50,7 +49,7 @@ code_by (suc k) (r ∷ rs) = code_by k rs
 
 -- the date's row is the head's sixth; what stands elsewhere in the head doesn't count
 abbrev pub date_code : ℕ → List ℕ → ℕ
-date_code e date = code_by 5 (atutal.headRules e (λ x. false) [] (replicate 22 0x20 ++ date))
+date_code e date = code_by 5 (atutal.head_rules e (λ x. false) [] (replicate 22 0x20 ++ date))
 
 -- the definitions say what 01 says
 abbrev pub holds : Example → Bool
@@ -118,6 +117,6 @@ one_item_453 = refl
 
 pub as_01_says : all examples ≡ true
 unfolding satisfies is_ean13 is_tax_form initiator_found leap is_date days_of_years days_of_months days_to day_number is_within is_before number_of date_field
-    account_of purposes place_found amount_found bank_found compiled_found debit_found atutal.headRules atutal.itemRules kind_of told_of tables
+    account_of purposes place_found amount_found bank_found compiled_found debit_found atutal.head_rules atutal.item_rules kind_of told_of tables
     head_rules item_rules head_letter head_code item_found foot_code ended is_foot items_in rest_after findings message_code
 as_01_says = refl

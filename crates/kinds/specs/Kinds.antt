@@ -26,15 +26,15 @@ is_beszed kind = eqb kind BESZED
 
 -- the head's bank is barred: positions 35-42 are eight digits, and the number in 35-37 is one of the barred (02, #105)
 abbrev pub is_barred_bank : (ℕ → Bool) → List ℕ → Bool
-is_barred_bank isBarred r = digits_of 8 (field 35 42 r) && isBarred (number_of (field 35 37 r))
+is_barred_bank is_barred r = digits_of 8 (field 35 42 r) && is_barred (number_of (field 35 37 r))
 
 -- what a head of a kind tells the rules of its items; BESZED knows no bar
 abbrev pub told_as : ℕ → (ℕ → Bool) → List ℕ → Told
-told_as kind isBarred r = record { kind = kind; barred = not (is_beszed kind) && is_barred_bank isBarred r }
+told_as kind is_barred r = record { kind = kind; barred = not (is_beszed kind) && is_barred_bank is_barred r }
 
 -- and a head of its own kind
 unfoldable pub told_of : (ℕ → Bool) → List ℕ → Told
-told_of isBarred r = told_as (kind_of r) isBarred r
+told_of is_barred r = told_as (kind_of r) is_barred r
 
 -- the rules of a head, with the known list, and of an item, with its place
 pub record Tables : Type 0 where
@@ -45,5 +45,5 @@ pub record Tables : Type 0 where
 unfoldable pub tables : ℕ → ℕ → (ℕ → Bool) → Tables
 tables kind e is_listed =
     cond (is_beszed kind)
-    (record { head = beszed.headRules e is_listed; item = beszed.itemRules e is_listed })
-    (record { head = atutal.headRules e is_listed; item = atutal.itemRules is_listed })
+    (record { head = beszed.head_rules e is_listed; item = beszed.item_rules e is_listed })
+    (record { head = atutal.head_rules e is_listed; item = atutal.item_rules is_listed })

@@ -1,4 +1,5 @@
 // The kinds of message and the rules of a message of either kind: their numbers here, all else definitions and laws (specs/Kinds, specs/Codes).
+#![tactic(auto)]
 
 // A group transfer.
 pub const ATUTAL: u32 = 0;

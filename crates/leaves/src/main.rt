@@ -1,31 +1,35 @@
 // Runs the lines of standard input through every public function of text, digits, cdv, account, calendar, lists and purposes, and through
 // the foot's rules. A line is a command letter, a space and bytes; each is printed again with a tab and the answers (reference/leaves.py
 // says which).
-use console::{put, put_next};
-use libc::STDIN_FILENO;
+#![tactic(auto)]
+
+use console::{put, put_next, read_full};
 use script::{end_of, field};
 
 // Room for the numbers of a list: each barred code (02 #105), and one number more.
 const LIST: usize = 1001;
 
-fn put_flag(yes: bool) {
-    put_next(yes as u64);
+fn put_flag(rt: &impl Print, yes: bool) {
+    put_next(rt, yes as u64);
 }
 
-fn decimal(s: &[u8]) {
-    put_flag(digits::is_digits(s));
-    put_next(digits::number(s));
+fn decimal(rt: &impl Print, s: &[u8]) {
+    put_flag(rt, digits::is_digits(s));
+    put_next(rt, digits::number(s));
 }
 
-fn account(s: &[u8]) {
-    put_next(match account::read(s) {
-        account::Account::Good => 0,
-        account::Account::FormOfFirstEight => 1,
-        account::Account::FormOfLastEight => 2,
-        account::Account::CheckDigitOverEight => 3,
-        account::Account::CheckDigitOverSixteen => 4,
-    });
-    put_flag(account::is_zero(s));
+fn account(rt: &impl Print, s: &[u8]) {
+    put_next(
+        rt,
+        match account::read(s) {
+            account::Account::Good => 0,
+            account::Account::FormOfFirstEight => 1,
+            account::Account::FormOfLastEight => 2,
+            account::Account::CheckDigitOverEight => 3,
+            account::Account::CheckDigitOverSixteen => 4,
+        },
+    );
+    put_flag(rt, account::is_zero(s));
 }
 
 // The number that the twenty digits after the first two bytes stand for, 0 where it is 2^64 or more.
@@ -51,7 +55,7 @@ fn large(s: &[u8]) -> u64 {
 }
 
 // A number written into the bytes after its width and its digits.
-fn written(space: &mut [u8], s: &[u8]) {
+fn written(rt: &impl Print, space: &mut [u8], s: &[u8]) {
     if s.len() < 22 {
         return;
     }
@@ -61,13 +65,13 @@ fn written(space: &mut [u8], s: &[u8]) {
     }
     text::put(space, &s[22..]);
     let w = field(s, 0, 2) as usize;
-    put_flag(digits::put_number(&mut space[0..count], w, large(s)));
-    put(b" ");
-    put(&space[0..count]);
+    put_flag(rt, digits::put_number(&mut space[0..count], w, large(s)));
+    put(rt, b" ");
+    put(rt, &space[0..count]);
 }
 
 // Bytes put over the front of those after them; two digits say how many.
-fn put_over(space: &mut [u8], s: &[u8]) {
+fn put_over(rt: &impl Print, space: &mut [u8], s: &[u8]) {
     let end = 2 + field(s, 0, 2) as usize;
     if s.len() < end {
         return;
@@ -77,44 +81,44 @@ fn put_over(space: &mut [u8], s: &[u8]) {
         return;
     }
     text::put(space, &s[end..]);
-    put_flag(text::put(&mut space[0..count], &s[2..end]));
-    put(b" ");
-    put(&space[0..count]);
+    put_flag(rt, text::put(&mut space[0..count], &s[2..end]));
+    put(rt, b" ");
+    put(rt, &space[0..count]);
 }
 
-fn text_field(s: &[u8]) {
-    put_flag(text::is_text(s));
-    put_flag(text::is_plain(s));
-    put_flag(text::is_blank(s));
-    put_flag(text::is_blank_or_zero(s));
+fn text_field(rt: &impl Print, s: &[u8]) {
+    put_flag(rt, text::is_text(s));
+    put_flag(rt, text::is_plain(s));
+    put_flag(rt, text::is_blank(s));
+    put_flag(rt, text::is_blank_or_zero(s));
 }
 
-fn every_byte() {
+fn every_byte(rt: &impl Print) {
     let mut b: usize = 0;
     while b < 256 {
         let one = [(b % 256) as u8];
-        put_flag(text::is_text(&one));
+        put_flag(rt, text::is_text(&one));
         b += 1;
     }
 }
 
-fn date_field(s: &[u8]) {
+fn date_field(rt: &impl Print, s: &[u8]) {
     match calendar::read_date(s) {
         calendar::DateField::Date(n) => {
-            put_flag(calendar::is_date(n));
-            put_next(calendar::day_number(n) as u64);
+            put_flag(rt, calendar::is_date(n));
+            put_next(rt, calendar::day_number(n) as u64);
         }
-        calendar::DateField::NotDigits => put_next(2),
-        calendar::DateField::NoDate => put_next(3),
+        calendar::DateField::NotDigits => put_next(rt, 2),
+        calendar::DateField::NoDate => put_next(rt, 3),
     }
 }
 
-fn window(s: &[u8]) {
+fn window(rt: &impl Print, s: &[u8]) {
     let first = field(s, 0, 8);
     let later = field(s, 8, 16);
-    put_flag(calendar::is_within(first, later, field(s, 16, 21)));
-    put_flag(calendar::is_before(first, later));
-    put_flag(calendar::is_due(first, later));
+    put_flag(rt, calendar::is_within(first, later, field(s, 16, 21)));
+    put_flag(rt, calendar::is_before(first, later));
+    put_flag(rt, calendar::is_due(first, later));
 }
 
 // Each number is above the one before it.
@@ -130,95 +134,95 @@ fn rises(list: &[u32]) -> bool {
 }
 
 // The answers on a list and a code; where the list doesn't rise, being listed isn't promised.
-fn listed(list: &[u32], code: u32) {
-    put_flag(lists::is_bank_list(list));
+fn listed(rt: &impl Print, list: &[u32], code: u32) {
+    put_flag(rt, lists::is_bank_list(list));
     if rises(list) {
-        put_flag(lists::is_listed(list, code));
+        put_flag(rt, lists::is_listed(list, code));
     } else {
-        put(b" -");
+        put(rt, b" -");
     }
 }
 
 // A code, and the numbers of a bank list, ten digits each.
-fn banks(space: &mut [u32], s: &[u8]) {
+fn banks(rt: &impl Print, space: &mut [u32], s: &[u8]) {
     if s.len() < 10 {
         return;
     }
     let count = script::fill(space, &s[10..]);
-    listed(&space[..count], field(s, 0, 10));
+    listed(rt, &space[..count], field(s, 0, 10));
 }
 
 // The numbers of a barred list, ten digits each.
-fn barred(space: &mut [u32], s: &[u8]) {
+fn barred(rt: &impl Print, space: &mut [u32], s: &[u8]) {
     let count = script::fill(space, s);
-    put_flag(lists::is_barred_list(&space[..count]));
+    put_flag(rt, lists::is_barred_list(&space[..count]));
 }
 
 // An identifier, and a known list.
-fn known(s: &[u8]) {
+fn known(rt: &impl Print, s: &[u8]) {
     if s.len() < 25 {
         return;
     }
     let mut id = [0u8; 25];
     text::put(&mut id, &s[0..25]);
     let list = &s[25..];
-    put_flag(lists::is_known_list(list));
-    put_flag(lists::is_known(list, id));
+    put_flag(rt, lists::is_known_list(list));
+    put_flag(rt, lists::is_known(list, id));
 }
 
 // Ten digits count, sixteen digits sum, and a foot.
-fn foot(s: &[u8]) {
+fn foot(rt: &impl Print, s: &[u8]) {
     if s.len() < 26 {
         return;
     }
     let count = digits::number(&s[0..10]);
     let sum = digits::number(&s[10..26]);
-    put_next(items::foot::code_in(&s[26..], count, sum) as u64);
+    put_next(rt, items::foot::code_in(&s[26..], count, sum) as u64);
 }
 
-fn answer(command: u8, s: &[u8]) {
+fn answer(rt: &impl Print, command: u8, s: &[u8]) {
     let mut bytes = [0u8; 128];
     let mut numbers = [0u32; LIST];
     match command {
-        b'd' => decimal(s),
-        b'c' => put_flag(cdv::satisfies(s)),
-        b'e' => put_flag(cdv::is_ean13(s)),
-        b'a' => account(s),
-        b'n' => written(&mut bytes, s),
-        b'x' => put_over(&mut bytes, s),
-        b't' => text_field(s),
-        b'T' => every_byte(),
-        b'f' => date_field(s),
-        b'w' => window(s),
-        b'b' => banks(&mut numbers, s),
-        b'A' => barred(&mut numbers, s),
-        b'k' => known(s),
-        b'p' => put_flag(purposes::is_purpose(s)),
-        b'z' => foot(s),
-        _ => put(b"?"),
+        b'd' => decimal(rt, s),
+        b'c' => put_flag(rt, cdv::satisfies(s)),
+        b'e' => put_flag(rt, cdv::is_ean13(s)),
+        b'a' => account(rt, s),
+        b'n' => written(rt, &mut bytes, s),
+        b'x' => put_over(rt, &mut bytes, s),
+        b't' => text_field(rt, s),
+        b'T' => every_byte(rt),
+        b'f' => date_field(rt, s),
+        b'w' => window(rt, s),
+        b'b' => banks(rt, &mut numbers, s),
+        b'A' => barred(rt, &mut numbers, s),
+        b'k' => known(rt, s),
+        b'p' => put_flag(rt, purposes::is_purpose(s)),
+        b'z' => foot(rt, s),
+        _ => put(rt, b"?"),
     }
 }
 
-fn line(s: &[u8]) {
-    put(s);
-    put(b"\t");
+fn line(rt: &impl Print, s: &[u8]) {
+    put(rt, s);
+    put(rt, b"\t");
     if s.len() >= 2 {
-        answer(s[0], &s[2..]);
+        answer(rt, s[0], &s[2..]);
     }
-    put(b"\n");
+    put(rt, b"\n");
 }
 
-fn lines(s: &[u8]) {
+fn lines(rt: &impl Print, s: &[u8]) {
     let mut at = 0;
     while at < s.len() {
         let end = end_of(s, at, b'\n');
-        line(&s[at..end]);
+        line(rt, &s[at..end]);
         at = end + 1;
     }
 }
 
-fn main() {
-    let mut space = io::large_buffer();
-    let n = io::read_full(STDIN_FILENO, &mut space);
-    lines(&space[..n]);
+fn main(rt: HostRuntime) {
+    let mut space = [0u8; 65536];
+    let n = read_full(&mut rt.stdin(), &mut space);
+    lines(&rt, &space[..n]);
 }

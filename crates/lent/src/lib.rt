@@ -1,8 +1,10 @@
 // What is lent to a judging, which of it is refused, and why a call is refused (01, Calls and their answers; 02 #103, #105).
+#![tactic(auto)]
+
 ghost use Rattle.std.specs.Prelude.{◌≡◌};
 ghost use Rattle.lent.specs.Lent.{refusal_number, listed, list_refused};
 
-#[derive(Drop)]
+#[derive(Clone, Copy)]
 pub enum Refusal {
     // E is not a date.
     NotADay,
@@ -57,7 +59,7 @@ pub fn number(r: Refusal) -> u8
 }
 
 // What a call comes to.
-#[derive(Drop)]
+#[derive(Clone, Copy)]
 pub enum Outcome {
     Done,
     Refused(Refusal),

@@ -1,4 +1,6 @@
 // Fields of a message shown in UTF-8: the letters of code page 852 that are text (01, fault 2), and a mark for any other byte.
+#![tactic(auto)]
+
 ghost use Rattle.std.specs.Prelude.{◌≡◌, [], ◌∷◌, ◌+◌, ◌≤◌, ◌<◌, length, leb};
 ghost use Rattle.base.specs.Bytes.{every};
 ghost use Rattle.base.specs.Put.{Written, Put};

@@ -1,4 +1,6 @@
 // The lists that the judge is lent: the bank list and the known list.
+#![tactic(auto)]
+
 ghost use Rattle.std.specs.Prelude.{◌≡◌, true, ◌+◌, ◌≤◌, length, take, drop};
 ghost use Rattle.base.specs.Bytes.{same};
 ghost use Rattle.lists.specs.Banks.{ascends, ascends_to, is_bank_list, is_barred_list, found_in, member};

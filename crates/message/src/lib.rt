@@ -1,4 +1,6 @@
 // A whole message judged in one call (01, Calls and their answers).
+#![tactic(auto)]
+
 ghost use Rattle.std.specs.Prelude.{◌≡◌};
 ghost use Rattle.lent.specs.Lent.{lent};
 ghost use Rattle.judge.specs.Session.{refused_as, JudgedAs};

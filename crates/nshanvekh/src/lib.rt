@@ -1,5 +1,7 @@
-// What a host links: the judge as functions over numbers and lent memory (include/nshanvekh.h says how C sees each call).
+// The calls of a host: the judge as functions over numbers and lent memory. `nshanvekh_c` gives each of them to C.
 // A session is bytes that the host keeps, `packed::BYTES` of them. Buffers of a wrong size are refused with 99 before anything else.
+#![tactic(auto)]
+
 ghost use Rattle.std.specs.Prelude.{◌≡◌, [], length};
 ghost use Rattle.single.specs.Single.{single_answer};
 ghost use Rattle.lent.specs.Lent.{outcome_number, listed, lent};
@@ -46,8 +48,7 @@ fn tell(n: u32, k: Closing, numbers: &mut [u64], id: &mut [u8]) -> u32
 }
 
 // A session is opened for a clearing day and a code table: refusals 99, 1, 4. After 1 and 4 the buffer holds a closed session.
-#[unsafe(no_mangle)]
-pub extern "C" fn nsh_open(day: u32, table: &[u8], session: &mut [u8]) -> u32
+pub fn nsh_open(day: u32, table: &[u8], session: &mut [u8]) -> u32
     ensures { OpenedAs day table.now session.old result session.new }
 {
     if session.len() != packed::BYTES {
@@ -61,8 +62,7 @@ pub extern "C" fn nsh_open(day: u32, table: &[u8], session: &mut [u8]) -> u32
 }
 
 // A piece is taken: refusals 99, 5, 2, 3, 15, 4. A refusal leaves session and table as they were.
-#[unsafe(no_mangle)]
-pub extern "C" fn nsh_piece(
+pub fn nsh_piece(
     session: &mut [u8],
     bytes: &[u8],
     banks: &[u32],
@@ -80,8 +80,7 @@ pub extern "C" fn nsh_piece(
 }
 
 // The message is over: refusals 99, 5, 6. 5 leaves all that is lent as it was, 6 closes the session and writes nothing else.
-#[unsafe(no_mangle)]
-pub extern "C" fn nsh_close(session: &mut [u8], numbers: &mut [u64], id: &mut [u8]) -> u32
+pub fn nsh_close(session: &mut [u8], numbers: &mut [u64], id: &mut [u8]) -> u32
     ensures { ClosedAs session.old numbers.old id.old
         result session.new numbers.new id.new }
 {
@@ -102,8 +101,7 @@ pub extern "C" fn nsh_close(session: &mut [u8], numbers: &mut [u64], id: &mut [u
 }
 
 // A whole message is judged: refusals 99, 1, 4, 2, 3, 15, 6. Where it is refused, numbers and identifier stay as they were.
-#[unsafe(no_mangle)]
-pub extern "C" fn nsh_judge(
+pub fn nsh_judge(
     message: &[u8],
     day: u32,
     banks: &[u32],
@@ -127,15 +125,7 @@ pub extern "C" fn nsh_judge(
 
 // A single head or item, without its ending, at place k of a message of a kind, 1 for BESZED and any other number for ATUTAL; a head tells its
 // kind itself: 0, a refusal (1, 2, 3, 10), or the field and the kind of its fault.
-#[unsafe(no_mangle)]
-pub extern "C" fn nsh_single(
-    x: &[u8],
-    day: u32,
-    banks: &[u32],
-    known: &[u8],
-    place: u32,
-    kind: u32,
-) -> u32
+pub fn nsh_single(x: &[u8], day: u32, banks: &[u32], known: &[u8], place: u32, kind: u32) -> u32
     ensures { result ≡ single_number (single_answer (lent day banks.now known.now []) kind place x.now) }
 {
     single::number(single::answer(x, place as u64, kind, day, banks, known))
@@ -167,8 +157,7 @@ fn tell_reply(a: Answer, numbers: &mut [u64]) -> u32
 }
 
 // The reply to a whole message goes to the front of the output: refusals 99, 1, 2, 3, 15, 6, 7, 8, 9.
-#[unsafe(no_mangle)]
-pub extern "C" fn nsh_reply(
+pub fn nsh_reply(
     message: &[u8],
     day: u32,
     banks: &[u32],
@@ -219,13 +208,7 @@ fn tell_status(n: u32, s: Status, numbers: &mut [u64], id: &mut [u8]) -> u32
 }
 
 // A STATUS is read: refusals 99, 10, 9. The k-th reference's code goes to byte k of the table; a refusal alters nothing.
-#[unsafe(no_mangle)]
-pub extern "C" fn nsh_read_status(
-    bytes: &[u8],
-    table: &mut [u8],
-    numbers: &mut [u64],
-    id: &mut [u8],
-) -> u32
+pub fn nsh_read_status(bytes: &[u8], table: &mut [u8], numbers: &mut [u64], id: &mut [u8]) -> u32
     ensures { StatusAs bytes.now table.old numbers.old id.old
         result table.new numbers.new id.new }
 {
@@ -254,8 +237,7 @@ fn tell_fedjel(a: cover::Answer, numbers: &mut [u64]) -> u32
 }
 
 // A FEDJEL is judged, whole: refusals 99, 1, 11, 12, 9. The k-th item's code goes to byte k of the table; a refusal alters nothing (02 #103).
-#[unsafe(no_mangle)]
-pub extern "C" fn nsh_fedjel(
+pub fn nsh_fedjel(
     message: &[u8],
     day: u32,
     requests: &[u8],
@@ -273,8 +255,7 @@ pub extern "C" fn nsh_fedjel(
 
 // The FEDSTA of a request goes to the front of the output: refusals 99, 1, 11, 12, 13, 8, 9. Cover is yes for 1 alone, so that a stray value
 // pays nothing (02 #103).
-#[unsafe(no_mangle)]
-pub extern "C" fn nsh_fedsta(
+pub fn nsh_fedsta(
     message: &[u8],
     day: u32,
     requests: &[u8],

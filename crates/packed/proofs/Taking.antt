@@ -22,7 +22,20 @@ use Rattle.frame.specs.declared.Tally.{Tally}
 use Rattle.judge.specs.declared.Session.{Session}
 use Rattle.judge.specs.declared.Taken.{Taken}
 use Rattle.judge.specs.declared.Step.{Step}
-use Rattle.judge.specs.Session.{longest, in_range, closed_session, give, piece_refused, taken, table_taken, parts_of, parts_refused, stepped, table_stepped, Stepped}
+use Rattle.judge.specs.Session.{
+  longest,
+  in_range,
+  closed_session,
+  give,
+  piece_refused,
+  taken,
+  table_taken,
+  parts_of,
+  parts_refused,
+  stepped,
+  table_stepped,
+  Stepped,
+}
 use Rattle.packed.specs.Packed.{packed_bytes, value_at, bytes_of, is_packed, tally_in, session_in, unpacked, TakenIn}
 use Rattle.packed.specs.Packed.{Fits, tally_over, Named, TallyPut, SteppedIn}
 use Rattle.packed.proofs.Little.{value_small}

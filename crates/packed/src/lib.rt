@@ -1,4 +1,6 @@
 // A session as bytes, for a host that keeps it in memory of its own (docs/SESSION.md, The session as bytes).
+#![tactic(auto)]
+
 ghost use Rattle.std.specs.Prelude.{◌≡◌, ◌+◌, ◌*◌, ◌≤◌, length, take, drop};
 ghost use Rattle.base.specs.Bytes.{over};
 ghost use Rattle.lent.specs.Lent.{listed};

@@ -1,4 +1,6 @@
 // The purposes of a message: a table of the 46 codes of annex 2 of 002.
+#![tactic(auto)]
+
 ghost use Rattle.std.specs.Prelude.{◌≡◌};
 ghost use Rattle.base.specs.Bytes.{same};
 ghost use Rattle.purposes.specs.Purposes.{is_purpose};

@@ -1,12 +1,13 @@
 // Prints what the STATUS on standard input says, a fact a line. Refusals go to standard error (01, Calls and their answers).
-ghost use Rattle.std.specs.Prelude.{◌≤◌, length};
-ghost use Rattle.io.specs.Counts.{IsPrefixLen};
+#![tactic(auto)]
 
-use console::{refuse, say};
+ghost use Rattle.std.specs.Prelude.{◌≤◌, length};
+ghost use Rattle.console.specs.Counts.{IsPrefixLen};
+
+use console::{put, put_number, read_full, refuse, say};
 use frame::Status;
 use judge::Session;
 use lent::Outcome;
-use libc::{STDERR_FILENO, STDIN_FILENO};
 
 // The longest STATUS that is held: 104 bytes of head and foot, and 65 for each of as many references as a table has codes.
 const STATUS: usize = 104 + 65 * Session::MOST;
@@ -33,51 +34,51 @@ fn put_items(out: &mut [u8], from: usize, codes: &[u8]) -> usize
 }
 
 // What the STATUS says, on standard output.
-fn print(s: Status, codes: &[u8]) {
+fn print(rt: &impl Print, s: Status, codes: &[u8]) {
     let mut out = [0u8; TEXT];
     let n = lines::facts::put_status(&mut out, s);
     let end = put_items(&mut out, n, codes);
-    console::put(&out[..end]);
+    put(rt, &out[..end]);
 }
 
 // The STATUS is read, and printed or refused.
-fn read(bytes: &[u8]) {
+fn read(rt: &HostRuntime, bytes: &[u8]) {
     let mut codes = [0u8; Session::MOST];
     let r = reading::read_status(bytes, &mut codes);
     let o = r.outcome;
     let s = r.status;
     let n = s.references;
     match o {
-        Outcome::Refused(r) => refuse(STDERR_FILENO, r),
-        Outcome::Done => print(s, &codes[..n]),
+        Outcome::Refused(r) => refuse(&rt.stderr(), r),
+        Outcome::Done => print(rt, s, &codes[..n]),
     }
 }
 
 // Of a longer one nothing is read.
-fn too_long() {
-    say(b"readback: over ");
-    io::print_decimal(STDERR_FILENO, STATUS as u64);
-    say(b" bytes, a STATUS with more than ");
-    io::print_decimal(STDERR_FILENO, Session::MOST as u64);
-    say(b" references isn't read\n");
+fn too_long(rt: &HostRuntime) {
+    say(rt, b"readback: over ");
+    put_number(&rt.stderr(), STATUS as u64);
+    say(rt, b" bytes, a STATUS with more than ");
+    put_number(&rt.stderr(), Session::MOST as u64);
+    say(rt, b" references isn't read\n");
 }
 
 // The STATUS is read into the space.
-fn answer(space: &mut [u8]) {
-    let n = io::read_full(STDIN_FILENO, space);
+fn answer(rt: &HostRuntime, space: &mut [u8]) {
+    let n = read_full(&mut rt.stdin(), space);
     if n > STATUS {
-        too_long();
+        too_long(rt);
         return;
     }
-    read(&space[..n]);
+    read(rt, &space[..n]);
 }
 
 // In the memory that is lent.
-fn answer_in(space: &mut [u8; SPACE]) {
-    answer(space);
+fn answer_in(rt: &HostRuntime, space: &mut [u8; SPACE]) {
+    answer(rt, space);
 }
 
-fn main() {
+fn main(rt: HostRuntime) {
     let mut space = [0u8; SPACE];
-    answer_in(&mut space);
+    answer_in(&rt, &mut space);
 }

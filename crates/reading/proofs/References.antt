@@ -83,7 +83,8 @@ right_snoc k (s ∷ rs) r =
 pub right_on : (x : List ℕ) (i : ℕ) → references_right 1 (parts_of (i + 1) (drop 56 x)) ≡ references_right 1 (first x i) && reference_right (i + 1) (next x i)
 right_on x i =
     let e : 1 + length (first x i) ≡ i + 1 = omega (arith, parts_length i (drop 56 x)) in
-    ap (references_right 1) (first_on x i) ∙ right_snoc 1 (first x i) (next x i) ∙ ap (λ (k : ℕ). references_right 1 (first x i) && reference_right k (next x i)) e
+    ap (references_right 1) (first_on x i) ∙ right_snoc 1 (first x i) (next x i)
+    ∙ ap (λ (k : ℕ). references_right 1 (first x i) && reference_right k (next x i)) e
 
 -- a code is 00 or another
 pub zeros_others : (cs : List ℕ) → zeros_in cs + others_in cs ≡ length cs

@@ -1,4 +1,6 @@
 // A STATUS message, read (01, Calls and their answers).
+#![tactic(auto)]
+
 ghost use Rattle.std.specs.Prelude.{◌≡◌, cond, ◌+◌, ◌-◌, ◌*◌, ◌≤◌, ◌<◌, length, eqb};
 ghost use Rattle.base.specs.Bytes.{field, same, over};
 ghost use Rattle.digits.specs.Digits.{number_of};
@@ -18,7 +20,7 @@ use frame::{Status, Totals};
 use lent::{Outcome, Refusal};
 
 // What reading gives: zeros and spaces where it is refused.
-#[derive(Drop)]
+#[derive(Clone, Copy)]
 pub struct Read {
     pub outcome: Outcome,
     pub status: Status,
@@ -109,7 +111,7 @@ fn count_of(x: &[u8]) -> usize
 }
 
 // What the references are found to be: each right in its place, and how many have code 00.
-#[derive(Drop)]
+#[derive(Clone, Copy)]
 struct Referred {
     right: bool,
     zeros: usize,

@@ -1,4 +1,6 @@
 // The lent list of a day's cover requests, 65 bytes each: identifier 1-25, account 26-49, sum 50-65 (02 #103).
+#![tactic(auto)]
+
 ghost use Rattle.std.specs.Prelude.{◌≡◌};
 ghost use Rattle.base.specs.Groups.{some, place};
 ghost use Rattle.requests.specs.Requests.{requests_of, has_id, keeps, is_request_list};

@@ -1,6 +1,8 @@
 // What the test programs share: where a part of a script ends, the number in a field of a line, and the numbers of a list.
+#![tactic(auto)]
+
 ghost use Rattle.std.specs.Prelude.{◌≡◌};
-ghost use Rattle.io.specs.Counts.{IsPrefixLen};
+ghost use Rattle.script.specs.Counts.{IsPrefixLen};
 ghost use Rattle.script.specs.Script.{Ends, field_of, FilledAs};
 
 // Where what starts at a place ends: the place of the next such byte, or the end.

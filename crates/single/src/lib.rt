@@ -1,4 +1,6 @@
 // The answer on a single head or item (01, Calls and their answers), and its number for a host in C (include/nshanvekh.h).
+#![tactic(auto)]
+
 ghost use Rattle.std.specs.Prelude.{◌≡◌, [], ◌+◌, ◌*◌, ◌≤◌, length};
 ghost use Rattle.lists.specs.Banks.{found_in};
 ghost use Rattle.lent.specs.Lent.{lent};
@@ -18,7 +20,7 @@ use items::item::ItemFindings;
 use lent::{Outcome, Refusal};
 
 // The fields that an answer names.
-#[derive(Drop)]
+#[derive(Clone, Copy)]
 enum Field {
     Type,
     MessageType,

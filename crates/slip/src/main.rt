@@ -1,31 +1,40 @@
 // Prints the slip of the message on standard input. The clearing day and the lists stand in the files `day`, `banks` and `known` of
 // the folder where it runs (01, Examples); its barred list is empty (02 #105).
+#![tactic(auto)]
+
 ghost use Rattle.std.specs.Prelude.{[], take};
-ghost use Rattle.io.specs.Counts.{IsPrefixLen};
+ghost use Rattle.console.specs.Counts.{IsPrefixLen};
 ghost use Rattle.lent.specs.Lent.{listed};
 ghost use Rattle.slips.specs.Message.{FedAs, FedBy, answer_by, zeros, slip_by, TextFor};
 
-use console::read_file;
+use console::{put, read_file, read_full};
 use files::{Given, SPACE};
 use judge::{Session, Taken};
-use libc::STDIN_FILENO;
+use std::io::Read;
 
 // The space for what is printed.
 const OUTPUT: usize = 256;
 
 // A piece that was read: its length, and the session to use next.
-#[derive(Drop)]
+#[derive(Clone, Copy)]
 struct Fed {
     length: usize,
     next: Taken,
 }
 
 // The next piece of the message, as large as the space: what was read stands at the front of the space, and all of it is fed.
-fn read_piece(t: Taken, space: &mut [u8], banks: &[u32], known: &[u8], table: &mut [u8]) -> Fed
+fn read_piece(
+    input: &mut impl Read,
+    t: Taken,
+    space: &mut [u8],
+    banks: &[u32],
+    known: &[u8],
+    table: &mut [u8],
+) -> Fed
     ensures { FedAs t (take result.length space.new) (listed banks.now known.now [])
         table.old result.next table.new }
 {
-    let n = io::read_full(STDIN_FILENO, space);
+    let n = read_full(input, space);
     Fed {
         length: n,
         next: slips::feed(t, &space[..n], banks, known, table),
@@ -35,6 +44,7 @@ fn read_piece(t: Taken, space: &mut [u8], banks: &[u32], known: &[u8], table: &m
 // The message, piece by piece; it is over where the input is, or where a read fails. A proved loop has to end: this one counts its
 // turns down, from a number that no run uses up.
 fn read_message(
+    input: &mut impl Read,
     start: Taken,
     space: &mut [u8],
     banks: &[u32],
@@ -46,7 +56,7 @@ fn read_message(
     let mut t = start;
     let mut turns = u64::MAX;
     while turns > 0 {
-        let f = read_piece(t, space, banks, known, table);
+        let f = read_piece(input, t, space, banks, known, table);
         let next = f.next;
         t = next;
         if f.length == 0 {
@@ -58,36 +68,54 @@ fn read_message(
 }
 
 // The message is judged with what the files say; what is to be printed stands at the front of the output.
-fn judged(out: &mut [u8; OUTPUT], day: u32, banks: &[u32], known: &[u8]) -> usize
+fn judged(
+    input: &mut impl Read,
+    out: &mut [u8; OUTPUT],
+    day: u32,
+    banks: &[u32],
+    known: &[u8],
+) -> usize
     ensures { TextFor (answer_by day zeros (listed banks.now known.now [])) out.old result out.new }
 {
     let mut table = [0u8; Session::MOST];
-    let mut space = io::large_buffer();
+    let mut space = [0u8; 65536];
     let start = Session::open(day, &table);
-    let t = read_message(start, &mut space, banks, known, &mut table);
+    let t = read_message(input, start, &mut space, banks, known, &mut table);
     slips::answer(out, t)
 }
 
 // The slip, or the refusal of a file, at the front of the output.
-fn answered(out: &mut [u8; OUTPUT], day: &[u8], banks: &[u8], known: &[u8]) -> usize
+fn answered(
+    input: &mut impl Read,
+    out: &mut [u8; OUTPUT],
+    day: &[u8],
+    banks: &[u8],
+    known: &[u8],
+) -> usize
     ensures prefix_len { IsPrefixLen result out.new }
     ensures text_for { TextFor (slip_by day.now banks.now known.now) out.old result out.new }
 {
     let mut list = [0u32; files::BANKS];
     match files::read(day, banks, known, &mut list) {
         Given::Refused(r) => lines::slip::put_refusal(out, r),
-        Given::Files { day, banks } => judged(out, day, &list[..banks], known),
+        Given::Files { day, banks } => judged(input, out, day, &list[..banks], known),
     }
 }
 
-fn main() {
+fn main(rt: HostRuntime) {
     let mut day = [0u8; SPACE];
     let mut banks = [0u8; SPACE];
     let mut known = [0u8; SPACE];
     let mut out = [0u8; OUTPUT];
-    let d = read_file(b"day", &mut day);
-    let b = read_file(b"banks", &mut banks);
-    let k = read_file(b"known", &mut known);
-    let n = answered(&mut out, &day[..d], &banks[..b], &known[..k]);
-    console::put(&out[..n]);
+    let d = read_file(&rt, "day", &mut day);
+    let b = read_file(&rt, "banks", &mut banks);
+    let k = read_file(&rt, "known", &mut known);
+    let n = answered(
+        &mut rt.stdin(),
+        &mut out,
+        &day[..d],
+        &banks[..b],
+        &known[..k],
+    );
+    put(&rt, &out[..n]);
 }

@@ -49,7 +49,7 @@ abbrev pub is_bytes : List ℕ → Bool
 is_bytes = every (λ b. ltb b 256)
 
 -- some pieces of bytes, each given what the last one left, lead to a session and a table; that they are what was read no contract can
--- say, since that of C's `read` says nothing of the bytes
+-- say, since std's `read` says which bytes came only where what is left of the input is known
 pub record FedBy (t : Taken) (l : Lists) (table : List ℕ) (r : Taken) (table' : List ℕ) : Type 0 where
   pub pieces : List (List ℕ)
   pub octets : is_bytes (joined pieces) ≡ true

@@ -1,4 +1,6 @@
 // The slip of a message that comes by pieces: what the slip program does between its files and its output (01, Examples).
+#![tactic(auto)]
+
 ghost use Rattle.std.specs.Prelude.{[]};
 ghost use Rattle.base.specs.Put.{Written};
 ghost use Rattle.lent.specs.Lent.{listed};

@@ -8,7 +8,7 @@ use Prim.Native.Nat.{ℕ}
 use lib.ListN.{length, replicate}
 use lib.Dec.{eqb}
 use Rattle.base.specs.Bytes.{field}
-use Rattle.lists.specs.Banks.{found_in as isIn}
+use Rattle.lists.specs.Banks.{found_in as is_in}
 use Rattle.lent.specs.Lent.{Lent, lent}
 use Rattle.frame.specs.declared.Found.{Found}
 use Rattle.frame.specs.Records.{lengths, items_of}
@@ -27,7 +27,7 @@ module _ (e : ℕ) (banks known barred m : List ℕ) where
   pub reply_14 : (told_by (rules l) m).barred ≡ true → (p : Particulars)
       → ((said l m p).accepted ≡ none) × (referred l m ≡ cond (eqb (said l m p).code 0) (replicate (length (items_of lengths m)) 14) [])
   unfolding referred
-  reply_14 b p = ((none_accepted e (isIn banks) known (isIn barred) m b room).0, rw (all_14 e (isIn banks) known (isIn barred) m b))
+  reply_14 b p = ((none_accepted e (is_in banks) known (is_in barred) m b room).0, rw (all_14 e (is_in banks) known (is_in barred) m b))
 
 module _ (e : ℕ) (banks known m : List ℕ) (p : Particulars) where
   -- a reply by a verdict and by what is found in the items
@@ -36,15 +36,15 @@ module _ (e : ℕ) (banks known m : List ℕ) (p : Particulars) where
       written (saying e (field 10 34 m) p v.closing) (cond (eqb v.closing.code 0) (map (λ f. f.code) fs) []) (items_of lengths m)
 
   abbrev Unbarred : Rules
-  Unbarred = rules_unbarred e (isIn banks) known
+  Unbarred = rules_unbarred e (is_in banks) known
 
   without : (barred : List ℕ) → (told_by (rules (lent e banks known barred)) m).barred ≡ false
       → reply (lent e banks known barred) m p ≡ by (verdict Unbarred room m) (found_in Unbarred m)
   unfolding reply referred
   without barred b =
-      λ i. by (unbarred_verdict e (isIn banks) known (isIn barred) m b room i) (unbarred_found e (isIn banks) known (isIn barred) m b i)
+      λ i. by (unbarred_verdict e (is_in banks) known (is_in barred) m b room i) (unbarred_found e (is_in banks) known (is_in barred) m b i)
 
   -- without one, whatever the barred list
   pub unbarred_reply : (barred : List ℕ) → (told_by (rules (lent e banks known barred)) m).barred ≡ false
       → reply (lent e banks known barred) m p ≡ reply (lent e banks known []) m p
-  unbarred_reply barred b = without barred b ∙ sym (without [] (none_barred e (isIn banks) known (isIn []) m (λ x. refl)))
+  unbarred_reply barred b = without barred b ∙ sym (without [] (none_barred e (is_in banks) known (is_in []) m (λ x. refl)))

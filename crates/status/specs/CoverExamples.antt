@@ -29,7 +29,10 @@ pub example_fedsta :
     × (fedsta 20200310 request refused id false particulars 3
     ≡ ascii "01FEDSTA0A12345676T00120200301000120200310000708300098" ++ ending
     ++ (ascii "0300000000000000000000000000030000000000012345" ++ ending))
-unfolding fedsta fedsta_bytes head_record foot_record figures cover_said state_of only_if standing_of is_answered lent_refused is_request_list are_requests is_fedjel ended
-    code_with message_rows is_plain_message head_rows sent_on date_field is_number number_of keeps whole_rows_of_all whole_rows is_typed last_rows foot_rows typed_rows joint_rows
-    are_together is_type amount_of item_code codes_to has_id request_of rightly together days_back workday_before leap is_date days_of_years days_of_months days_to day_number
+unfolding fedsta fedsta_bytes head_record foot_record figures cover_said state_of only_if standing_of is_answered lent_refused is_request_list are_requests
+    is_fedjel ended
+    code_with message_rows is_plain_message head_rows sent_on date_field is_number number_of keeps whole_rows_of_all whole_rows is_typed last_rows foot_rows
+    typed_rows joint_rows
+    are_together is_type amount_of item_code codes_to has_id request_of rightly together days_back workday_before leap is_date days_of_years days_of_months
+    days_to day_number
 example_fedsta = (refl, refl)

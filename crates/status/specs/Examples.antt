@@ -22,5 +22,5 @@ pub example_reply :
     ≡ ascii "01STATUS0A12345676T00120200301000120200310000708300042" ++ ending
     ++ (ascii "0300000000000000000000000000000000000000000000" ++ ending)
 unfolding reply written head_record references foot_record figures referred room verdict message_code findings items_in rest_after ended is_foot
-    head_letter head_code head_rules item_found item_rules kind_of tables atutal.headRules atutal.itemRules
+    head_letter head_code head_rules item_found item_rules kind_of tables atutal.head_rules atutal.item_rules
 example_reply = refl

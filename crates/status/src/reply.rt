@@ -14,7 +14,7 @@ use judge::Session;
 use lent::{Outcome, Refusal};
 
 // What the caller says of a reply beside its date: duplicate code 0 or @, number to 9999, time hhmmss.
-#[derive(Drop)]
+#[derive(Clone, Copy)]
 pub struct Particulars {
     pub duplicate: u8,
     pub number: u32,
@@ -22,7 +22,7 @@ pub struct Particulars {
 }
 
 // The reply's length, or why there is none.
-#[derive(Drop)]
+#[derive(Clone, Copy)]
 pub enum Answer {
     Written(usize),
     Refused(Refusal),

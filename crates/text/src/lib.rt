@@ -1,4 +1,6 @@
 // Text fields: the letters of code page 852 that a message may hold, fields of spaces, fields of spaces and zeros; comparing and putting text.
+#![tactic(auto)]
+
 ghost use Rattle.std.specs.Prelude.{◌≡◌, leb, length};
 ghost use Rattle.base.specs.Bytes.{same};
 ghost use Rattle.text.specs.Text.{

@@ -46,6 +46,7 @@ fn call(
 
 // The call is made: its number, and what stands in the numbers, the identifier and the table that it was lent, are shown.
 fn shown(
+    rt: &impl Print,
     command: u8,
     text: &[u8],
     lengths: &[u8],
@@ -63,7 +64,7 @@ fn shown(
     let n = call(
         command, text, lengths, g.day, banks, known, barred, own, table, numbers, id,
     );
-    put_lent(n, numbers, id, table);
+    put_lent(rt, n, numbers, id, table);
 }
 
 // How many numbers a call is lent.
@@ -78,6 +79,7 @@ fn numbers_of(command: u8, z: u32) -> usize
 
 // The call of a letter, with a table of the length that the line begins with, and buffers of the sizes that are given.
 pub(crate) fn called(
+    rt: &impl Print,
     command: u8,
     text: &[u8],
     r: &[u8],
@@ -96,6 +98,7 @@ pub(crate) fn called(
     let count = numbers_of(command, z);
     let end = size(25, z);
     shown(
+        rt,
         command,
         text,
         &r[from..],
@@ -117,6 +120,7 @@ fn same_session(before: Memory, after: &[u8]) -> u64 {
 // A call on the session that stays from line to line: after the length four digits the piece's first place, four its last. At the end 1
 // where the session's bytes are those before the call.
 pub(crate) fn stepped(
+    rt: &impl Print,
     command: u8,
     text: &[u8],
     r: &[u8],
@@ -130,6 +134,7 @@ pub(crate) fn stepped(
     let last = least(field(r, 11, 15) as usize, text.len());
     let first = least(field(r, 6, 10) as usize, last);
     called(
+        rt,
         command,
         &text[first..last],
         r,
@@ -139,7 +144,7 @@ pub(crate) fn stepped(
         barred,
         session,
     );
-    put_next(same_session(before, session));
+    put_next(rt, same_session(before, session));
 }
 
 // A byte is put into the session: four digits its place, three the byte.

@@ -9,7 +9,7 @@ use console::put_next;
 use script::field;
 
 // What a judging gave: its number, and what stands in numbers, identifier and table.
-#[derive(Drop)]
+#[derive(Clone, Copy)]
 struct Left {
     number: u32,
     numbers: [u64; 7],
@@ -116,14 +116,22 @@ fn agree(
 }
 
 // What a judging gave is shown, of the table so many bytes.
-fn put_left(n: u32, numbers: [u64; 7], id: [u8; 25], table: [u8; 25], length: usize) {
+fn put_left(
+    rt: &impl Print,
+    n: u32,
+    numbers: [u64; 7],
+    id: [u8; 25],
+    table: [u8; 25],
+    length: usize,
+) {
     let table = &table[..];
     let end = least(length, table.len());
-    put_lent(n, &numbers, &id, &table[0..end]);
+    put_lent(rt, n, &numbers, &id, &table[0..end]);
 }
 
 // What the message gives by an empty piece and all of it, and 1 where each cut gives that. The table has the line's length, at most 25.
 pub(crate) fn each_cut(
+    rt: &impl Print,
     message: &[u8],
     r: &[u8],
     day: u32,
@@ -136,6 +144,6 @@ pub(crate) fn each_cut(
     let numbers = first.numbers;
     let id = first.id;
     let table = first.table;
-    put_left(first.number, numbers, id, table, length);
-    put_next(agree(first, message, length, day, banks, known, barred));
+    put_left(rt, first.number, numbers, id, table, length);
+    put_next(rt, agree(first, message, length, day, banks, known, barred));
 }

@@ -1,6 +1,8 @@
 // Tries the cases of the script on standard input through the calls that a host in C links (include/nshanvekh.h): messages, judged
 // whole and by pieces, with the reply written and read back; single records; STATUS messages; a session, call by call; cover answers; and
 // what the slip program prints. reference/cases.py prints the script; reference/trial.py gives the expected output and says what a line is.
+#![tactic(auto)]
+
 ghost use Rattle.std.specs.Prelude.{◌≤◌, length};
 
 mod calls;
@@ -16,8 +18,7 @@ mod words;
 use crate::calls::{Memory, SESSION, called, stepped};
 use crate::reply::replied;
 use crate::words::{Given, add, add_many, changed, least};
-use console::{put, put_next};
-use libc::STDIN_FILENO;
+use console::{put, put_next, read_full};
 use script::{end_of, field, fill};
 
 // Room for test data: the script; a base text, of 10,001 items and more; a text with changes; a reply to 10,000 items, and bytes after it.
@@ -34,6 +35,7 @@ const BARRED: usize = 1001;
 
 // The text is tried with what is given, the lists, and the line's own words r.
 fn tried(
+    rt: &impl Print,
     command: u8,
     text: &[u8],
     r: &[u8],
@@ -47,23 +49,26 @@ fn tried(
     match command {
         b'j' => {
             let mut own = [0u8; SESSION];
-            called(b'j', text, r, g, banks, known, barred, &mut own);
-            put(b" p");
-            called(b'p', text, r, g, banks, known, barred, &mut own);
-            replied(text, r, g, banks, known, barred, out, &mut own);
+            called(rt, b'j', text, r, g, banks, known, barred, &mut own);
+            put(rt, b" p");
+            called(rt, b'p', text, r, g, banks, known, barred, &mut own);
+            replied(rt, text, r, g, banks, known, barred, out, &mut own);
         }
-        b'w' => replied(text, r, g, banks, known, barred, out, session),
-        b'r' => called(command, text, r, g, banks, known, barred, session),
-        b'a' => cuts::each_cut(text, r, g.day, banks, known, barred),
+        b'w' => replied(rt, text, r, g, banks, known, barred, out, session),
+        b'r' => called(rt, command, text, r, g, banks, known, barred, session),
+        b'a' => cuts::each_cut(rt, text, r, g.day, banks, known, barred),
         b's' => {
             let place = field(r, 0, 10);
             let kind = field(r, 11, 21);
-            put_next(nshanvekh::nsh_single(text, g.day, banks, known, place, kind) as u64)
+            put_next(
+                rt,
+                nshanvekh::nsh_single(text, g.day, banks, known, place, kind) as u64,
+            )
         }
-        b'f' => slip::print(text, r),
-        b'd' => covers::judged(text, r, g),
-        b'q' => covers::written(text, r, g, out),
-        _ => stepped(command, text, r, g, banks, known, barred, session),
+        b'f' => slip::print(rt, text, r),
+        b'd' => covers::judged(rt, text, r, g),
+        b'q' => covers::written(rt, text, r, g, out),
+        _ => stepped(rt, command, text, r, g, banks, known, barred, session),
     }
 }
 
@@ -76,6 +81,7 @@ fn rest<'a>(s: &'a [u8], at: usize) -> &'a [u8] {
 
 // The text is tried with what is given; a line of its own says what that gave.
 fn answered(
+    rt: &impl Print,
     s: &[u8],
     g: Given,
     command: u8,
@@ -89,8 +95,9 @@ fn answered(
     let count = fill(&mut list, rest(s, g.banks));
     let barred = fill(&mut codes, rest(s, g.barred));
     let name = [command];
-    put(&name);
+    put(rt, &name);
     tried(
+        rt,
         command,
         text,
         r,
@@ -101,11 +108,12 @@ fn answered(
         out,
         session,
     );
-    put(b"\n");
+    put(rt, b"\n");
 }
 
 // A case: its own words, and after | the changes of the base text. Where there are none the base text itself is tried.
 fn case(
+    rt: &impl Print,
     s: &[u8],
     g: Given,
     command: u8,
@@ -118,13 +126,13 @@ fn case(
     let base = &base[0..m];
     let own = end_of(r, 0, b'|');
     if own == r.len() {
-        answered(s, g, command, base, r, out, session);
+        answered(rt, s, g, command, base, r, out, session);
         return;
     }
     let mut text = [0u8; TEXT];
     let from = own + 1;
     let n = changed(&mut text, base, &r[from..]);
-    answered(s, g, command, &text[..n], &r[0..own], out, session);
+    answered(rt, s, g, command, &text[..n], &r[0..own], out, session);
 }
 
 // A line that sets the clearing day, a list, which starts at a place, sizes or a reply's particulars, or builds the base text.
@@ -153,6 +161,7 @@ fn set(command: u8, r: &[u8], start: usize, g: Given, base: &mut [u8]) -> Given 
 
 // A line is a case, a comment, puts a byte into the session, or sets something. Only cases have small letters.
 fn line(
+    rt: &impl Print,
     s: &[u8],
     at: usize,
     end: usize,
@@ -170,13 +179,13 @@ fn line(
     let start = at + 2;
     let own = &s[start..end];
     if command >= b'a' {
-        case(s, g, command, own, base, out, session);
+        case(rt, s, g, command, own, base, out, session);
         return g;
     }
     match command {
         b'#' => {
-            put(&s[at..end]);
-            put(b"\n");
+            put(rt, &s[at..end]);
+            put(rt, b"\n");
             g
         }
         b'X' => {
@@ -188,7 +197,7 @@ fn line(
 }
 
 // The script is run: at first there are empty lists, right sizes and no output.
-fn lines(s: &[u8], base: &mut [u8], out: &mut [u8], session: &mut Memory) {
+fn lines(rt: &impl Print, s: &[u8], base: &mut [u8], out: &mut [u8], session: &mut Memory) {
     let mut g = Given {
         day: 0,
         banks: s.len(),
@@ -204,30 +213,31 @@ fn lines(s: &[u8], base: &mut [u8], out: &mut [u8], session: &mut Memory) {
     let mut at = 0;
     while at < s.len() {
         let end = end_of(s, at, b'\n');
-        g = line(s, at, end, g, base, out, session);
+        g = line(rt, s, at, end, g, base, out, session);
         at = end + 1;
     }
 }
 
 // The script is read into the space and run.
-fn run(space: &mut [u8], base: &mut [u8], out: &mut [u8], session: &mut Memory) {
-    let n = io::read_full(STDIN_FILENO, space);
-    lines(&space[..n], base, out, session);
+fn run(rt: &HostRuntime, space: &mut [u8], base: &mut [u8], out: &mut [u8], session: &mut Memory) {
+    let n = read_full(&mut rt.stdin(), space);
+    lines(rt, &space[..n], base, out, session);
 }
 
 fn held(
+    rt: &HostRuntime,
     space: &mut [u8; SCRIPT],
     base: &mut [u8; BASE],
     out: &mut [u8; REPLY],
     session: &mut Memory,
 ) {
-    run(space, base, out, session);
+    run(rt, space, base, out, session);
 }
 
-fn main() {
+fn main(rt: HostRuntime) {
     let mut space = [0u8; SCRIPT];
     let mut base = [0u8; BASE];
     let mut out = [0u8; REPLY];
     let mut session = [0u8; SESSION];
-    held(&mut space, &mut base, &mut out, &mut session);
+    held(&rt, &mut space, &mut base, &mut out, &mut session);
 }

@@ -6,10 +6,10 @@ use crate::words::{Given, least, size};
 use console::{put, put_next};
 
 // What a writing told is shown: the length of the reply, 0 where it is refused.
-fn told(n: u32, numbers: &[u64]) -> usize {
-    put(b" w");
-    put_next(n as u64);
-    put_numbers(numbers);
+fn told(rt: &impl Print, n: u32, numbers: &[u64]) -> usize {
+    put(rt, b" w");
+    put_next(rt, n as u64);
+    put_numbers(rt, numbers);
     if n != 0 {
         return 0;
     }
@@ -21,6 +21,7 @@ fn told(n: u32, numbers: &[u64]) -> usize {
 
 // The reply to the message is written to the front of the output, by the particulars that are given.
 fn written(
+    rt: &impl Print,
     message: &[u8],
     g: Given,
     banks: &[u32],
@@ -42,11 +43,12 @@ fn written(
         out,
         numbers,
     );
-    told(n, numbers)
+    told(rt, n, numbers)
 }
 
 // The reply of so many bytes, what follows it in the output, and what is read from it.
 fn read_back(
+    rt: &impl Print,
     out: &[u8],
     n: usize,
     r: &[u8],
@@ -58,14 +60,15 @@ fn read_back(
 ) {
     let end = least(n, out.len());
     let reply = &out[0..end];
-    put_sums(reply);
-    put_sums(&out[end..]);
-    put(b" r");
-    called(b'r', reply, r, g, banks, known, barred, session);
+    put_sums(rt, reply);
+    put_sums(rt, &out[end..]);
+    put(rt, b" r");
+    called(rt, b'r', reply, r, g, banks, known, barred, session);
 }
 
 // The reply to the message is written and read back.
 pub(crate) fn replied(
+    rt: &impl Print,
     message: &[u8],
     r: &[u8],
     g: Given,
@@ -79,6 +82,7 @@ pub(crate) fn replied(
     let room = least(g.room, out.len());
     let count = size(1, g.sizes / 10);
     let n = written(
+        rt,
         message,
         g,
         banks,
@@ -87,5 +91,5 @@ pub(crate) fn replied(
         &mut out[0..room],
         &mut numbers[0..count],
     );
-    read_back(&out[0..room], n, r, g, banks, known, barred, session);
+    read_back(rt, &out[0..room], n, r, g, banks, known, barred, session);
 }

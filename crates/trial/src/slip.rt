@@ -1,5 +1,5 @@
 // What the slip program prints for files and a message, by the functions that it is made of (01, Examples).
-ghost use Rattle.io.specs.Counts.{IsPrefixLen};
+ghost use Rattle.console.specs.Counts.{IsPrefixLen};
 
 use crate::words::ahead;
 use console::put;
@@ -44,12 +44,12 @@ fn answered(out: &mut [u8], day: &[u8], banks: &[u8], known: &[u8], message: &[u
 }
 
 // What is printed for the files `day`, `banks` and `known`, whose lengths the line gives, and the message, which follow each other in the text.
-pub(crate) fn print(text: &[u8], r: &[u8]) {
+pub(crate) fn print(rt: &impl Print, text: &[u8], r: &[u8]) {
     let mut out = [0u8; 256];
     let a = ahead(0, field(r, 0, 5) as usize, text.len());
     let b = ahead(a, field(r, 6, 11) as usize, text.len());
     let c = ahead(b, field(r, 12, 17) as usize, text.len());
     let n = answered(&mut out, &text[0..a], &text[a..b], &text[b..c], &text[c..]);
-    put(b"\n");
-    put(&out[..n]);
+    put(rt, b"\n");
+    put(rt, &out[..n]);
 }

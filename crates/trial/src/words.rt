@@ -1,12 +1,12 @@
 // The words of a script: sizes, lists, and texts, built by lines or made of a base text.
 ghost use Rattle.std.specs.Prelude.{◌+◌, ◌-◌, ◌≤◌, length};
-ghost use Rattle.io.specs.Counts.{IsPrefixLen};
+ghost use Rattle.console.specs.Counts.{IsPrefixLen};
 
 use script::{end_of, field};
 
 // What the script has set: the clearing day, where the lists start in the script, the length of the base text, how the sizes of session,
 // numbers and identifier lie to the right ones, as three digits, and a reply's particulars and output.
-#[derive(Drop)]
+#[derive(Clone, Copy)]
 pub(crate) struct Given {
     pub(crate) day: u32,
     pub(crate) banks: usize,

@@ -2,18 +2,20 @@
 // the end the verdict or the first break. With the word `faults` the records without a fault, a watch or a break are left out. The
 // clearing day and the lists stand in the files `day`, `banks` and `known` of the folder where it runs, as for the slip (01, Examples);
 // its barred list is empty (02 #105). No contract can say what is written to a stream, so the functions have none.
+#![tactic(auto)]
+
 mod breaks;
-mod lines;
+mod parts;
 mod records;
 mod told;
 
-use crate::lines::{put_code, put_counted};
-use console::{put, read_file, refuse, say};
+use crate::parts::{put_code, put_counted};
+use console::{argument_count, put, read_argument, read_file, read_full, refuse, say};
 use files::{Given, SPACE};
 use frame::{Closing, Record, Told, Totals};
 use judge::Session;
 use lent::Outcome;
-use libc::{STDIN_FILENO, STDOUT_FILENO};
+use std::rt::Env;
 use text::put_at;
 
 // A message with as many items as a table has codes.
@@ -30,7 +32,7 @@ const ROOM: usize = FULL + 4096;
 
 // A walk: how much of the output is filled, what the head told, ATUTAL and no bar before it, what the items so far give, and whether it
 // goes on.
-#[derive(Drop)]
+#[derive(Clone, Copy)]
 struct Walk {
     filled: usize,
     told: Told,
@@ -40,19 +42,19 @@ struct Walk {
 }
 
 // The front of the output is written.
-fn write(out: &[u8], filled: usize) {
+fn write(rt: &impl Print, out: &[u8], filled: usize) {
     if filled > out.len() {
         return;
     }
-    put(&out[0..filled]);
+    put(rt, &out[0..filled]);
 }
 
 // The output is written where it is nearly full; how much of it is filled then.
-fn room(out: &[u8], filled: usize) -> usize {
+fn room(rt: &impl Print, out: &[u8], filled: usize) -> usize {
     if filled < FULL {
         return filled;
     }
-    write(out, filled);
+    write(rt, out, filled);
     0
 }
 
@@ -70,6 +72,7 @@ fn ended(w: Walk, filled: usize) -> Walk {
 
 // The item at place k, which begins at a place of the message, is shown, and counted.
 fn item(
+    rt: &impl Print,
     out: &mut [u8],
     r: &[u8],
     k: usize,
@@ -86,7 +89,7 @@ fn item(
     let answer = single::number(single::answer(r, k as u64, kind, day, banks, known)) as usize;
     let filled = records::put_item(out, w.filled, r, k, kind, start, only, answer, f);
     Walk {
-        filled: room(out, filled),
+        filled: room(rt, out, filled),
         told,
         count: k as u64,
         sum: std::num::wrapping_add_u64(w.sum, f.amount),
@@ -124,6 +127,7 @@ fn broken(out: &mut [u8], message: &[u8], k: usize, at: usize, w: Walk) -> Walk 
 
 // The k-th record of the walk, from 0, which stands at a place of the message, is shown; the end isn't.
 fn step(
+    rt: &impl Print,
     out: &mut [u8],
     message: &[u8],
     k: usize,
@@ -148,7 +152,7 @@ fn step(
         }
         Record::Item { start, next } => {
             let r = records::bytes(message, start, next);
-            item(out, r, k, start, w, only, day, banks, known)
+            item(rt, out, r, k, start, w, only, day, banks, known)
         }
         Record::Foot { start, next } => {
             let r = records::bytes(message, start, next);
@@ -165,6 +169,7 @@ fn step(
 // Each record of the message, to the foot or the first break; how much of the output is filled then. A record has bytes, so there are
 // fewer records than turns.
 fn put_records(
+    rt: &impl Print,
     out: &mut [u8],
     message: &[u8],
     only: bool,
@@ -185,7 +190,7 @@ fn put_records(
     let mut at = 0;
     let mut k = 0;
     while k <= message.len() {
-        w = step(out, message, k, at, w, only, day, banks, known);
+        w = step(rt, out, message, k, at, w, only, day, banks, known);
         if !w.on {
             return w.filled;
         }
@@ -224,44 +229,61 @@ fn put_closing(out: &mut [u8], at: usize, k: Closing) -> usize {
 }
 
 // The records and the verdict are shown.
-fn put_message(out: &mut [u8], message: &[u8], only: bool, day: u32, banks: &[u32], known: &[u8]) {
-    let filled = put_records(out, message, only, day, banks, known);
+fn put_message(
+    rt: &impl Print,
+    out: &mut [u8],
+    message: &[u8],
+    only: bool,
+    day: u32,
+    banks: &[u32],
+    known: &[u8],
+) {
+    let filled = put_records(rt, out, message, only, day, banks, known);
     let mut table = [0u8; Session::MOST];
     let j = message::judge(day, banks, known, &[], &mut table, message);
     let o = j.outcome;
     let k = j.closing;
     match o {
         Outcome::Refused(r) => {
-            write(out, filled);
-            refuse(STDOUT_FILENO, r)
+            write(rt, out, filled);
+            refuse(rt, r)
         }
         Outcome::Done => {
             let filled = put_closing(out, filled, k);
-            write(out, filled)
+            write(rt, out, filled)
         }
     }
 }
 
 // Of a longer message nothing is shown.
-fn put_too_long() {
-    put(b"MESSAGE TOO LONG: over ");
-    console::put_number(LONGEST as u64);
-    put(b" bytes, the length of ");
-    console::put_number(Session::MOST as u64);
-    put(b" items; nothing is shown\n");
+fn put_too_long(rt: &impl Print) {
+    put(rt, b"MESSAGE TOO LONG: over ");
+    console::put_number(rt, LONGEST as u64);
+    put(rt, b" bytes, the length of ");
+    console::put_number(rt, Session::MOST as u64);
+    put(rt, b" items; nothing is shown\n");
 }
 
 // The message is shown, if it is held as a whole, by way of the output that is lent.
-fn shown(message: &[u8], only: bool, day: u32, banks: &[u32], known: &[u8], out: &mut [u8; ROOM]) {
+fn shown(
+    rt: &impl Print,
+    message: &[u8],
+    only: bool,
+    day: u32,
+    banks: &[u32],
+    known: &[u8],
+    out: &mut [u8; ROOM],
+) {
     if message.len() > LONGEST {
-        put_too_long();
+        put_too_long(rt);
         return;
     }
-    put_message(out, message, only, day, banks, known);
+    put_message(rt, out, message, only, day, banks, known);
 }
 
 // The message is read into the space, which has one byte more than can be shown.
 fn read_message(
+    rt: &HostRuntime,
     space: &mut [u8],
     only: bool,
     day: u32,
@@ -269,11 +291,12 @@ fn read_message(
     known: &[u8],
     out: &mut [u8; ROOM],
 ) {
-    let n = io::read_full(STDIN_FILENO, space);
-    shown(&space[..n], only, day, banks, known, out);
+    let n = read_full(&mut rt.stdin(), space);
+    shown(rt, &space[..n], only, day, banks, known, out);
 }
 
 fn held(
+    rt: &HostRuntime,
     space: &mut [u8; HELD],
     only: bool,
     day: u32,
@@ -281,49 +304,50 @@ fn held(
     known: &[u8],
     out: &mut [u8; ROOM],
 ) {
-    read_message(space, only, day, banks, known, out);
+    read_message(rt, space, only, day, banks, known, out);
 }
 
 // The message is shown with what the files say.
-fn given(only: bool, day: u32, banks: &[u32], known: &[u8]) {
+fn given(rt: &HostRuntime, only: bool, day: u32, banks: &[u32], known: &[u8]) {
     let mut space = [0u8; HELD];
     let mut out = [0u8; ROOM];
-    held(&mut space, only, day, banks, known, &mut out);
+    held(rt, &mut space, only, day, banks, known, &mut out);
 }
 
 // The files are judged before a byte of the message is read.
-fn answered(only: bool, day: &[u8], banks: &[u8], known: &[u8]) {
+fn answered(rt: &HostRuntime, only: bool, day: &[u8], banks: &[u8], known: &[u8]) {
     let mut list = [0u32; files::BANKS];
     match files::read(day, banks, known, &mut list) {
-        Given::Refused(r) => refuse(STDOUT_FILENO, r),
-        Given::Files { day, banks } => given(only, day, &list[..banks], known),
+        Given::Refused(r) => refuse(rt, r),
+        Given::Files { day, banks } => given(rt, only, day, &list[..banks], known),
     }
 }
 
 // The files are read into the spaces that are lent.
-fn read_files(only: bool, day: &mut [u8], banks: &mut [u8], known: &mut [u8]) {
-    let d = read_file(b"day", day);
-    let b = read_file(b"banks", banks);
-    let k = read_file(b"known", known);
-    answered(only, &day[..d], &banks[..b], &known[..k]);
+fn read_files(rt: &HostRuntime, only: bool, day: &mut [u8], banks: &mut [u8], known: &mut [u8]) {
+    let d = read_file(rt, "day", day);
+    let b = read_file(rt, "banks", banks);
+    let k = read_file(rt, "known", known);
+    answered(rt, only, &day[..d], &banks[..b], &known[..k]);
 }
 
 // In the memory that is lent.
 fn read_files_in(
+    rt: &HostRuntime,
     only: bool,
     day: &mut [u8; SPACE],
     banks: &mut [u8; SPACE],
     known: &mut [u8; SPACE],
 ) {
-    read_files(only, day, banks, known);
+    read_files(rt, only, day, banks, known);
 }
 
 // All of it; or, with `only`, no more than the records with a fault, a watch or a break, and the verdict.
-fn run(only: bool) {
+fn run(rt: &HostRuntime, only: bool) {
     let mut day = [0u8; SPACE];
     let mut banks = [0u8; SPACE];
     let mut known = [0u8; SPACE];
-    read_files_in(only, &mut day, &mut banks, &mut known);
+    read_files_in(rt, only, &mut day, &mut banks, &mut known);
 }
 
 // The word `faults`.
@@ -340,21 +364,24 @@ fn is_faults(s: &[u8]) -> bool {
 }
 
 // What one argument asks for. One that is longer than its space counts as empty.
-fn asked() -> bool {
+fn asked(rt: &impl Env) -> bool {
     let mut word = [0u8; 8];
-    let n = os::arg(1, &mut word);
+    let n = read_argument(rt, 1, &mut word);
     is_faults(&word[..n])
 }
 
-fn main() {
-    let words = os::arg_count();
+fn main(rt: HostRuntime) {
+    let words = argument_count(&rt);
     if words == 1 {
-        run(false);
+        run(&rt, false);
         return;
     }
-    if (words == 2) & asked() {
-        run(true);
+    if (words == 2) & asked(&rt) {
+        run(&rt, true);
         return;
     }
-    say(b"Usage: view [faults], the message on standard input\n");
+    say(
+        &rt,
+        b"Usage: view [faults], the message on standard input\n",
+    );
 }

@@ -1,5 +1,5 @@
 // Records and their fields, put into the output (01, Records). With `only`, a record that has nothing to tell is left out.
-use crate::lines::{put_counted, put_position, put_text};
+use crate::parts::{put_counted, put_position, put_text};
 use crate::told;
 use judge::Session;
 use text::put_at;
@@ -34,7 +34,7 @@ pub(crate) fn bytes(message: &[u8], start: usize, next: usize) -> &[u8] {
 }
 
 // A field: the number of its name, and the last of its positions.
-#[derive(Drop)]
+#[derive(Clone, Copy)]
 struct Named {
     number: usize,
     last: usize,

@@ -1,4 +1,2 @@
-pub mod Calls
-pub mod Held
 pub mod Walk
 pub mod Views

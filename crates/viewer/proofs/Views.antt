@@ -106,5 +106,5 @@ module _ (s : Bor (List ℕ)) where
   pub foot_bytes : is_broken lengths m ≡ false → bytes_of m (met (walked (suc (length is)) (begun s))) ≡ foot_of lengths m
   foot_bytes b =
       let z : there + foot_end - there - 2 ≡ lengths.foot = omega arith in
-      let rest = places.rest-is m (places.unbroken m b).head in
+      let rest = places.rest_is m (places.unbroken m b).head in
       ap (bytes_of m) (foot_met b) ∙ ap (λ (a : ℕ). take a (drop there m)) z ∙ sym (ap (take lengths.foot) rest)

@@ -61,8 +61,8 @@ module _ (m : List ℕ) (e : head_stands lengths m ≡ true) where
 
   closing_met : (b : Bool) → is_broken lengths m ≡ b → Meets m (place n) (closing_records b n)
   unfolding closing_records
-  closing_met true b = (places.at-break m e b, refl)
-  closing_met false b = (places.at-foot m e b, (places.at-end m n (places.foot-stands m e b), refl))
+  closing_met true b = (places.at_break m e b, refl)
+  closing_met false b = (places.at_foot m e b, (places.at_end m n (places.foot_stands_lem m e b), refl))
 
   after_head_met : Meets m (place 0) (item_records 0 (items_of lengths m) ++ closing)
   after_head_met =

@@ -1,12 +1,14 @@
 // The support desk's viewer: a held message is walked record by record, and the walk stops at the first break (01, Calls
 // and their answers).
+#![tactic(auto)]
+
 ghost use Rattle.std.specs.Prelude.{◌≡◌};
 ghost use Rattle.viewer.specs.Views.{next_at, view_at, begun, met, moved};
 
 use frame::Record;
 
 // A held message, and a position in it.
-#[derive(Drop)]
+#[derive(Clone, Copy)]
 pub struct View<'a> {
     pub message: &'a [u8],
     pub at: usize,

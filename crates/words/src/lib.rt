@@ -1,5 +1,7 @@
 // Words for people: the names of fields and of kinds of fault, by the numbers that an answer has for them, and what a code is given for.
 // They stand in tables, a word to a line.
+#![tactic(auto)]
+
 ghost use Rattle.std.specs.Prelude.{◌≡◌, ◌+◌, ◌≤◌, length, get_or, drop, []};
 ghost use Rattle.text.specs.Text.{with_bytes_at, after_bytes};
 ghost use Rattle.findings.specs.Answers.{field_words, kind_words};

@@ -1,0 +1,10 @@
+-- `letters::hex` meets its contract.
+-- Assumes nothing.
+use borrow.Author.Tests.{lt-ltb, le-ltb}
+use Rattle.letters.proofs.hex.Goals as goal
+
+pub returns-then-d-lt10 : goal.returns-then-d-lt10
+returns-then-d-lt10 c = simp (lt-ltb c.args.d 10 c.if-d-lt10.true)
+
+pub returns-else-d-lt10 : goal.returns-else-d-lt10
+returns-else-d-lt10 c = simp (le-ltb c.args.d 10 c.if-d-lt10.false)

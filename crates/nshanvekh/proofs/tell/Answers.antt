@@ -1,0 +1,33 @@
+-- `nshanvekh::tell` meets its contract: nothing beside a refusal, else each number at its place and the identifier.
+-- Assumes nothing.
+use Rattle.nshanvekh.proofs.Tells.{told_none, told}
+use lib.ListN.{length, length-set}
+use native.Mathlib.Omega.{arith}
+use mathlib.Core.Path.{◌≡◌}
+use borrow.Author.Rules.{rules}
+use Rattle.nshanvekh.proofs.tell.Goals.{Start}
+use Rattle.nshanvekh.proofs.tell.Goals as goal
+
+-- the identifier of a closing has 25 bytes
+id-at : (c : Start) → length c.args.k.id ≡ 25
+id-at c = search rules
+
+pub returns-then-n-ne0 : goal.returns-then-n-ne0
+returns-then-n-ne0 c = told_none c.if-n-ne0.true
+
+pub bounds-numbers-4 : goal.bounds-numbers-4
+bounds-numbers-4 c = simp length-set (omega (arith, c.requires.0))
+
+pub bounds-numbers-5 : goal.bounds-numbers-5
+bounds-numbers-5 c = simp length-set (omega (arith, c.requires.0))
+
+pub bounds-numbers-6 : goal.bounds-numbers-6
+bounds-numbers-6 c = simp length-set (omega (arith, c.requires.0))
+
+pub shape_of-numbers : goal.shape_of-numbers
+shape_of-numbers c = simp length-set
+
+pub returns : goal.returns
+returns c =
+    let start = (goal.at.returns c).Start in
+    told c.if-n-ne0.false c.requires.0 c.requires.1 (id-at start) c.put.ensures.bytes

@@ -1,0 +1,10 @@
+-- `view::answered` is safe: the banks that were read lie within the list.
+-- Assumes nothing.
+use Rattle.files.proofs.Within.{banks}
+use Rattle.view.proofs.answered.Goals as goal
+
+pub slice_bounds-list-end : goal.slice_bounds-list-end
+slice_bounds-list-end c = (banks c.read.ensures c.in-Files.is).low
+
+pub slice_bounds-given-end : goal.slice_bounds-given-end
+slice_bounds-given-end c = (banks c.read.ensures c.in-Files.is).long
