@@ -4,7 +4,7 @@
 #![tactic(auto)]
 
 ghost use Rattle.std.specs.Prelude.{◌≡◌};
-ghost use Rattle.console.specs.Counts.{IsPrefixLen};
+ghost use Rattle.base.specs.Counts.{IsPrefixLen};
 ghost use Rattle.console.specs.Arguments.{number_of_word};
 
 use lent::Refusal;

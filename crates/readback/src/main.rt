@@ -2,7 +2,7 @@
 #![tactic(auto)]
 
 ghost use Rattle.std.specs.Prelude.{◌≤◌, length};
-ghost use Rattle.console.specs.Counts.{IsPrefixLen};
+ghost use Rattle.base.specs.Counts.{IsPrefixLen};
 
 use console::{put, put_number, read_full, refuse, say};
 use frame::Status;

@@ -8,7 +8,7 @@ use native.Mathlib.Numerals.{add-one}
 use native.Mathlib.Omega.{arith}
 use lib.ListN.{length, set, length-append}
 use lib.Seq.{length-take-le}
-use Rattle.script.specs.Counts.{IsPrefixLen}
+use Rattle.base.specs.Counts.{IsPrefixLen}
 use Rattle.base.specs.Bytes.{over}
 use Rattle.base.proofs.Over.{length_over, over_none, over_set}
 use Rattle.script.specs.Script.{field_of, numbers_of, FilledAs}

@@ -2,7 +2,7 @@
 #![tactic(auto)]
 
 ghost use Rattle.std.specs.Prelude.{◌≡◌};
-ghost use Rattle.script.specs.Counts.{IsPrefixLen};
+ghost use Rattle.base.specs.Counts.{IsPrefixLen};
 ghost use Rattle.script.specs.Script.{Ends, field_of, FilledAs};
 
 // Where what starts at a place ends: the place of the next such byte, or the end.

@@ -3,7 +3,7 @@
 #![tactic(auto)]
 
 ghost use Rattle.std.specs.Prelude.{[], take};
-ghost use Rattle.console.specs.Counts.{IsPrefixLen};
+ghost use Rattle.base.specs.Counts.{IsPrefixLen};
 ghost use Rattle.lent.specs.Lent.{listed};
 ghost use Rattle.slips.specs.Message.{FedAs, FedBy, answer_by, zeros, slip_by, TextFor};
 

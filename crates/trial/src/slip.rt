@@ -1,5 +1,5 @@
 // What the slip program prints for files and a message, by the functions that it is made of (01, Examples).
-ghost use Rattle.console.specs.Counts.{IsPrefixLen};
+ghost use Rattle.base.specs.Counts.{IsPrefixLen};
 
 use crate::words::ahead;
 use console::put;

@@ -1,6 +1,6 @@
 // The words of a script: sizes, lists, and texts, built by lines or made of a base text.
 ghost use Rattle.std.specs.Prelude.{◌+◌, ◌-◌, ◌≤◌, length};
-ghost use Rattle.console.specs.Counts.{IsPrefixLen};
+ghost use Rattle.base.specs.Counts.{IsPrefixLen};
 
 use script::{end_of, field};
 
