@@ -68,7 +68,7 @@ def upper(name):
 
 
 def arms(crate, pattern):
-    """The names and numbers of what numbers cases: a match, or constants."""
+    """The names and numbers of what numbers cases: a match, an enum, or constants."""
     return {name: int(number) for name, number in re.findall(pattern, source(crate))}
 
 
@@ -98,11 +98,11 @@ def numbers_in_code():
     """What each name of the header has to be, as pairs: a name may come more than once."""
     yield from sizes_in_code()
     yield "NSH_TABLE_MOST", constant("judge", "MOST")
-    yield from ((f"NSH_{upper(n)}", k) for n, k in arms("nshanvekh", r"Outcome::(Done) => (\d+)").items())
+    yield "NSH_DONE", arms("nshanvekh", r"(Ok)\(_\) => (\d+)")["Ok"]
     yield from ((f"NSH_{REFUSALS.get(n, upper(n))}", k) for n, k in arms("lent", r"Refusal::(\w+) => (\d+)").items())
     yield from ((f"NSH_MESSAGE_{name}", number) for name, number in arms("kinds", r"const (\w+): u32 = (\d+);").items())
     yield from ((f"NSH_FIELD_{upper(n)}", k) for n, k in arms("single", r"Answer::(\w+)\(k\) => field_and_kind\((\d+)").items())
-    yield from ((f"NSH_KIND_{upper(n)}", k) for n, k in arms("findings", r"Kind::(\w+) => (\d+)").items())
+    yield from ((f"NSH_KIND_{upper(n)}", k) for n, k in arms("findings", r"(\w+) = (\d+),").items())
 
 
 # The calls

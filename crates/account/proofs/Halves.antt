@@ -1,7 +1,7 @@
 -- The halves of an account field.
 -- Assumes nothing.
-use mathlib.Core.Path.{◌≡◌, refl, sym, ap, ◌∙◌}
-use mathlib.Core.Bool.{Bool, true, false, ◌&&◌, ◌||◌, true≢false, false≢true}
+use mathlib.Core.Path.{◌≡◌, sym, ap, ◌∙◌}
+use mathlib.Core.Bool.{Bool, true, false, ◌&&◌}
 use mathlib.Core.List.{List}
 use Prim.Native.Nat.{ℕ}
 use native.Mathlib.Omega.{arith}
@@ -26,10 +26,10 @@ half f s h e = sym (ap (every f) (all_last s h)) ∙ e
 pub no_space : (s : List ℕ) → length s ≡ 16 → (get_or s 8 0 ≡ 32 → ⊥) → is_blank (last_eight s) ≡ false
 no_space s h f = simp (step s 8 (omega arith), ne_eqb (get_or s 8 0) 32 f)
 
-pub after_space : (s : List ℕ) → length s ≡ 16 → get_or s 8 0 ≡ 32 → {t : Bool} → is_blank (take 7 (drop 9 s)) ≡ t → is_blank (last_eight s) ≡ t
-after_space s h f e =
+pub after_space : (s : List ℕ) → length s ≡ 16 → get_or s 8 0 ≡ 32 → is_blank (last_eight s) ≡ is_blank (take 7 (drop 9 s))
+after_space s h f =
     let d : is_blank (last_eight s) ≡ is_blank (drop 9 s) = simp (step s 8 (omega arith), f) in
-    d ∙ (sym (ap is_blank (take_all 7 (drop 9 s) (omega (arith, length-drop 9 s)))) ∙ e)
+    d ∙ sym (ap is_blank (take_all 7 (drop 9 s) (omega (arith, length-drop 9 s))))
 
 -- sixteen digits are eight and eight
 pub digits_in_halves : (s : List ℕ) → is_digits s ≡ is_digits (first_eight s) && is_digits (last_eight s)
@@ -41,12 +41,3 @@ blank_no_digits s h e =
     let d = step s 8 (omega arith) in
     let p = both _ _ (rw d at e) in
     simp (d, eqb-true (get_or s 8 0) 32 p.0)
-
--- of two tests, one of which has to pass: neither did, or the first did where the second didn't
-pub neither : (a b : Bool) → a || b ≡ false → (a ≡ false) × (b ≡ false)
-neither true b e = absurd (true≢false e)
-neither false b e = (refl, e)
-
-pub either : (a b : Bool) → a || b ≡ true → b ≡ false → a ≡ true
-either true b e f = refl
-either false b e f = absurd (false≢true (sym f ∙ e))

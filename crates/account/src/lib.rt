@@ -1,17 +1,16 @@
 // Account fields: sixteen digits, or eight digits and eight spaces, with a check digit over the digits; and which eight are wrong.
 #![tactic(auto)]
 
-ghost use Rattle.std.specs.Prelude.{◌≡◌, false, ◌&&◌, ◌||◌, length};
+ghost use Rattle.std.specs.Prelude.{◌≡◌, false, ◌&&◌, ◌||◌, length, Err};
 ghost use Rattle.base.specs.Bytes.{every};
 ghost use Rattle.text.specs.Text.{is_blank};
 ghost use Rattle.digits.specs.Digits.{is_digits};
 ghost use Rattle.cdv.specs.Check.{satisfies};
 ghost use Rattle.account.specs.Account.{zero, own, account_of, is_zero_account};
 
-// What an account field is found to be (02 #102).
-#[derive(Clone, Copy)]
-pub enum Account {
-    Good,
+// Why a field holds no account (02 #102).
+#[derive(Clone, Copy, PartialEq, Eq)]
+pub enum AccountFault {
     FormOfFirstEight,
     FormOfLastEight,
     CheckDigitOverEight,
@@ -19,8 +18,8 @@ pub enum Account {
 }
 
 // The digits of an account field of sixteen bytes: its first eight where eight spaces follow, else all. Nine digits and seven spaces are no account.
-fn digits_of(s: &[u8]) -> &[u8]
-    requires { length s.now ≡ 16 }
+#[tactic(auto, using(crate::proofs::Halves::no_space, crate::proofs::Halves::after_space))]
+fn digits_of(s: &[u8; 16]) -> &[u8]
     ensures { result.now ≡ own s.now }
 {
     if s[8] != b' ' {
@@ -46,33 +45,35 @@ fn is_half(s: &[u8], spaces: bool) -> bool
 }
 
 // What is wrong with sixteen bytes whose digits don't satisfy the check digit.
-fn fault(s: &[u8]) -> Account
-    requires { (length s.now ≡ 16) × (satisfies (own s.now) ≡ false) }
-    ensures { result ≡ account_of s.now }
+#[tactic(auto, using(crate::proofs::Halves::all_last, crate::proofs::Halves::blank_no_digits), unfolding(crate::specs::Account::account_of))]
+fn fault(s: &[u8; 16]) -> AccountFault
+    requires { satisfies (own s.now) ≡ false }
+    ensures { Err result ≡ account_of s.now }
 {
     if !is_half(&s[0..8], false) {
-        return Account::FormOfFirstEight; // whatever the last eight are
+        return AccountFault::FormOfFirstEight; // whatever the last eight are
     }
     if !is_half(&s[8..16], true) {
-        return Account::FormOfLastEight;
+        return AccountFault::FormOfLastEight;
     }
     if text::is_blank(&s[8..16]) {
-        return Account::CheckDigitOverEight;
+        return AccountFault::CheckDigitOverEight;
     }
-    Account::CheckDigitOverSixteen
+    AccountFault::CheckDigitOverSixteen
 }
 
 // What the field is found to be (01, Digits and dates; 02 #102). What satisfies the check digit is digits, so halves are looked at only in a fault.
-pub fn read(s: &[u8]) -> Account
+#[tactic(auto, using(crate::proofs::AsBefore::good), unfolding(crate::specs::Account::account_of))]
+pub fn read(s: &[u8]) -> Result<(), AccountFault>
     ensures { result ≡ account_of s.now }
 {
-    if s.len() != 16 {
-        return Account::FormOfFirstEight;
+    let Ok(field) = <&[u8; 16]>::try_from(s) else {
+        return Err(AccountFault::FormOfFirstEight);
+    };
+    if cdv::satisfies(digits_of(field)) {
+        return Ok(());
     }
-    if cdv::satisfies(digits_of(s)) {
-        return Account::Good;
-    }
-    fault(s)
+    Err(fault(field))
 }
 
 // Each byte is '0'. No branch on a byte, so that the compiler takes many at a time.
@@ -80,15 +81,14 @@ fn all_zero(s: &[u8]) -> bool
     ensures { result ≡ every zero s.now }
 {
     let mut ok = true;
-    let mut i = 0;
-    while i < s.len() {
-        ok = ok & (s[i] == b'0');
-        i += 1;
+    for b in s {
+        ok &= *b == b'0';
     }
     ok
 }
 
 // The account is one of zeros (01, the zero watch). Most often the first eight show that it isn't.
+#[tactic(auto, using(base::proofs::Every::every_parts, crate::proofs::Halves::all_last), unfolding(crate::specs::Account::is_zero_account))]
 pub fn is_zero(s: &[u8]) -> bool
     ensures { result ≡ is_zero_account s.now }
 {

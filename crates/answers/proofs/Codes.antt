@@ -3,55 +3,61 @@
 use mathlib.Core.Path.{◌≡◌, refl, sym, ap, ◌∙◌}
 use mathlib.Core.Bool.{Bool, true, false, cond, not, ◌||◌, or_assoc, or-false}
 use mathlib.Core.List.{List, [], ◌∷◌, ◌++◌}
-use Prim.Native.Nat.{ℕ, zero, suc, ◌+◌, ◌-◌, ◌*◌, ◌/◌, ◌≤◌, ◌<◌}
+use Prim.Native.Nat.{ℕ, zero, suc, ◌+◌, ◌*◌, ◌/◌, ◌≤◌, ◌<◌}
 use native.Mathlib.Nat.{zero-add}
 use native.Mathlib.Numerals.{add-one}
 use native.Mathlib.Omega.{arith}
-use lib.Dec.{eqb, ltb}
+use lib.Dec.{eqb, ltb, lit≤}
 use lib.ListN.{length, get_or, take, drop, set, length-append}
 use lib.Seq.{length-take-le, take_all, take-nil, take-append-le, set_out}
-use borrow.Author.Tests.{ltb-true, ltb-false, lt-ltb, le-ltb}
+use borrow.Author.Tests.{ltb-true, ltb-false}
+use Rattle.std.specs.Prelude.{Option, Some, None, is_some, position}
+use Rattle.std.specs.Simd.{first_chunks}
 use Rattle.base.specs.Bytes.{field, over}
-use Rattle.base.specs.Groups.{groups, some, place}
+use Rattle.base.specs.Groups.{groups, some}
 use Rattle.base.specs.Tables.{first_given}
-use Rattle.base.proofs.Groups.{length_groups, group_at, front_groups, some_found}
+use Rattle.base.proofs.Chunks.{position_some, cut_groups}
+use Rattle.base.proofs.Groups.{length_groups, group_at, front_groups}
 use Rattle.base.proofs.Over.{over_none, over_set, length_over}
 use Rattle.requests.specs.Requests.{requests_of, has_id, request_of}
-use Rattle.requests.proofs.Found.{asked, lent}
-use Rattle.answers.specs.Answers.{rightly, fault_rows, item_code, codes_to, is_faulty, table_after, WithCodes}
+use Rattle.requests.proofs.Found.{unasked, asked, lent_whole}
+use Rattle.answers.specs.Fedjel.{item_count, item_bytes, items_in, items_of}
+use Rattle.answers.proofs.Form.{items_long}
+use Rattle.answers.specs.Answers.{rightly, fault_rows, item_code, codes_to, WithCodes}
 
-module _ (l : List ℕ) (earlier : List (List ℕ)) (it : List ℕ) {j : ℕ} (p : j ≡ place (has_id (field 3 27 it)) (requests_of l)) where
+module _ (l : List ℕ) (earlier : List (List ℕ)) (it : List ℕ) {f : Option ℕ} (p : f ≡ position (has_id (field 3 27 it)) (requests_of l)) where
   abbrev id : List ℕ
   id = field 3 27 it
 
   abbrev rs : List (List ℕ)
   rs = requests_of l
 
-  pub unknown : length l / 65 ≤ j → 74 ≡ item_code rs earlier it
+  pub unknown : f ≡ None → 74 ≡ item_code rs earlier it
   unfolding item_code
-  unknown h = simp (asked l id p, le-ltb j (length l / 65) h)
+  unknown n = simp (unasked l id p n)
 
-  module _ (h : j < length l / 65) where
-    -- the request, as code lends it
+  -- the request, as code lends it
+  module _ {j : ℕ} (s : f ≡ Some j) {qs : List (List ℕ)} (cut : qs ≡ first_chunks 65 (length l / 65) l) where
     abbrev own : List ℕ
-    own = take (j * 65 + 65 - j * 65) (drop (j * 65) l)
+    own = get_or qs j []
 
     known : cond (some (rightly own) earlier) 75 (first_given (fault_rows own it)) ≡ item_code rs earlier it
     unfolding item_code
     known =
-        ap (λ (q : List ℕ). cond (some (rightly q) earlier) 75 (first_given (fault_rows q it))) (sym (lent l id p h))
+        ap (λ (q : List ℕ). cond (some (rightly q) earlier) 75 (first_given (fault_rows q it)))
+        (ap (λ (x : List (List ℕ)). get_or x j []) cut ∙ sym (lent_whole l id p s))
         ∙ ap (λ (b : Bool). cond (not b) 74 (cond (some (rightly (request_of id rs)) earlier) 75 (first_given (fault_rows (request_of id rs) it))))
-        (sym (asked l id p ∙ lt-ltb j (length l / 65) h))
+        (sym (asked l id p s))
 
-    module _ {k i : ℕ} (e : length earlier ≡ k) (r : i ≡ place (rightly own) earlier) where
-      before : some (rightly own) earlier ≡ ltb i k
-      before = some_found (rightly own) earlier e r
+    module _ {r : Option ℕ} (e : r ≡ position (rightly own) earlier) where
+      by_earlier : cond (is_some r) 75 (first_given (fault_rows own it)) ≡ item_code rs earlier it
+      by_earlier = ap (λ (b : Bool). cond b 75 (first_given (fault_rows own it))) (position_some (rightly own) earlier e) ∙ known
 
-      pub repeated : i < k → 75 ≡ item_code rs earlier it
-      repeated t = simp (before, lt-ltb i k t) at known
+      pub repeated : is_some r ≡ true → 75 ≡ item_code rs earlier it
+      repeated t = simp t at by_earlier
 
-      pub first_one : k ≤ i → {c : ℕ} → c ≡ first_given (fault_rows own it) → c ≡ item_code rs earlier it
-      first_one t f = f ∙ simp (before, le-ltb i k t) at known
+      pub first_one : is_some r ≡ false → {c : ℕ} → c ≡ first_given (fault_rows own it) → c ≡ item_code rs earlier it
+      first_one t f = f ∙ simp t at by_earlier
 
 -- a fault of an item
 abbrev given : ℕ → Bool
@@ -61,12 +67,12 @@ some_snoc : (f : ℕ → Bool) (xs : List ℕ) (x : ℕ) → some f (xs ++ (x �
 some_snoc f [] x = or-false (f x)
 some_snoc f (y ∷ ys) x = ap (λ (b : Bool). f y || b) (some_snoc f ys x) ∙ sym (or_assoc (f y) (some f ys) (f x))
 
-pub length_codes : (rs its : List (List ℕ)) (k : ℕ) → length (codes_to rs its k) ≡ k
+pub length_codes : (qs its : List (List ℕ)) (k : ℕ) → length (codes_to qs its k) ≡ k
 unfolding codes_to
-length_codes rs its zero = refl
-length_codes rs its (suc k) =
-    length-append (codes_to rs its k) (item_code rs (take k its) (get_or its k []) ∷ [])
-    ∙ ap (λ (n : ℕ). n + 1) (length_codes rs its k)
+length_codes qs its zero = refl
+length_codes qs its (suc k) =
+    length-append (codes_to qs its k) (item_code qs (take k its) (get_or its k []) ∷ [])
+    ∙ ap (λ (n : ℕ). n + 1) (length_codes qs its k)
     ∙ add-one k
 
 length_take_most : (n : ℕ) (xs : List ℕ) → length (take n xs) ≤ n
@@ -100,36 +106,28 @@ filled t cs c = go (ltb (length cs) (length t)) refl
     go true e = short (ltb-true (length cs) (length t) e)
     go false e = long (ltb-false (length cs) (length t) e)
 
-module _ (l b : List ℕ) (n : ℕ) (t₀ : List ℕ) where
-  abbrev its : List (List ℕ)
-  its = groups 72 70 n b
-
+module _ (l m t₀ : List ℕ) where
   -- the codes of the first k items stand in the table
   pub record Coded (t : List ℕ) (faulty : Bool) (k : ℕ) : Type 0 where
-    pub low : k ≤ n
-    pub found : faulty ≡ some given (codes_to (requests_of l) its k)
-    pub table : t ≡ over t₀ 0 (take (length t₀) (codes_to (requests_of l) its k))
+    pub found : faulty ≡ some given (codes_to (requests_of l) (items_of m) k)
+    pub table : t ≡ over t₀ 0 (take (length t₀) (codes_to (requests_of l) (items_of m) k))
 
   pub coded : Coded t₀ false 0
   unfolding codes_to
-  coded = record { low = omega arith; found = refl; table = sym (ap (over t₀ 0) (take-nil (length t₀)) ∙ over_none t₀ 0) }
+  coded = record { found = refl; table = sym (ap (over t₀ 0) (take-nil (length t₀)) ∙ over_none t₀ 0) }
 
   module _ {t : List ℕ} {faulty : Bool} {k : ℕ} (w : Coded t faulty k) where
-    pub coded_on : k < n → {c : ℕ} → c ≡ item_code (requests_of l) (groups 72 70 k b) (take 70 (drop (k * 72) b))
+    pub coded_on : k < item_count m → {c : ℕ} → c ≡ item_code (requests_of l) (take k (items_of m)) (get_or (items_of m) k [])
         → {t' : List ℕ} → t' ≡ set t k c → Coded t' (faulty || given c) (k + 1)
     unfolding codes_to
-    coded_on h {c} e {t'} f =
-        let cs = codes_to (requests_of l) its k in
-        let q : c ≡ item_code (requests_of l) (take k its) (get_or its k []) =
-        e ∙ ap (λ (x : List (List ℕ)). item_code (requests_of l) x (take 70 (drop (k * 72) b))) (sym (front_groups 72 70 n b k (omega arith)))
-        ∙ ap (item_code (requests_of l) (take k its)) (sym (group_at 72 70 n b k h)) in
-        let s : cs ++ (c ∷ []) ≡ codes_to (requests_of l) its (k + 1) =
-        ap (λ (x : ℕ). cs ++ (x ∷ [])) q ∙ ap (codes_to (requests_of l) its) (sym (add-one k)) in
+    coded_on h {c} q {t'} f =
+        let cs = codes_to (requests_of l) (items_of m) k in
+        let s : cs ++ (c ∷ []) ≡ codes_to (requests_of l) (items_of m) (k + 1) =
+        ap (λ (x : ℕ). cs ++ (x ∷ [])) q ∙ ap (codes_to (requests_of l) (items_of m)) (sym (add-one k)) in
         record {
-          low = omega arith;
           found = ap (λ (x : Bool). x || given c) w.found ∙ sym (some_snoc given cs c) ∙ ap (some given) s;
           table = f ∙ ap (λ (x : List ℕ). set x k c) w.table
-              ∙ ap (λ (i : ℕ). set (over t₀ 0 (take (length t₀) cs)) i c) (sym (length_codes (requests_of l) its k))
+              ∙ ap (λ (i : ℕ). set (over t₀ 0 (take (length t₀) cs)) i c) (sym (length_codes (requests_of l) (items_of m) k))
               ∙ filled t₀ cs c
               ∙ ap (λ (x : List ℕ). over t₀ 0 (take (length t₀) x)) s;
         }
@@ -137,32 +135,40 @@ module _ (l b : List ℕ) (n : ℕ) (t₀ : List ℕ) where
     -- the table keeps its length
     pub coded_long : length t ≡ length t₀
     coded_long =
-        let cs = take (length t₀) (codes_to (requests_of l) its k) in
-        let m : length cs ≤ length t₀ = length_take_most (length t₀) (codes_to (requests_of l) its k) in
-        ap length w.table ∙ length_over t₀ 0 cs (omega (arith, m))
+        let cs = take (length t₀) (codes_to (requests_of l) (items_of m) k) in
+        let n : length cs ≤ length t₀ = length_take_most (length t₀) (codes_to (requests_of l) (items_of m) k) in
+        ap length w.table ∙ length_over t₀ 0 cs (omega (arith, n))
 
-    pub coded_all : n ≤ k → WithCodes (requests_of l) its t₀ faulty t
+    pub coded_all : k ≡ item_count m → WithCodes (requests_of l) (items_of m) t₀ faulty t
     coded_all h =
-        let z : k ≡ length its = omega (arith, w.low) ∙ sym (length_groups 72 70 n b) in
+        let z : k ≡ length (items_of m) = h ∙ sym (length_groups 72 70 (item_count m) (drop 34 m)) in
         record {
-          faulty = w.found ∙ ap (λ (i : ℕ). some given (codes_to (requests_of l) its i)) z;
-          codes = w.table ∙ ap (λ (i : ℕ). over t₀ 0 (take (length t₀) (codes_to (requests_of l) its i))) z;
+          faulty = w.found ∙ ap (λ (i : ℕ). some given (codes_to (requests_of l) (items_of m) i)) z;
+          codes = w.table ∙ ap (λ (i : ℕ). over t₀ 0 (take (length t₀) (codes_to (requests_of l) (items_of m) i))) z;
         }
 
--- no item: nothing is written
-pub no_items : (rs : List (List ℕ)) (t : List ℕ) {its : List (List ℕ)} → its ≡ [] → WithCodes rs its t false t
-unfolding codes_to
-no_items rs t {its} e =
-    record {
-      faulty = ap (is_faulty rs) (sym e);
-      codes = sym (ap (over t 0) (take-nil (length t)) ∙ over_none t 0) ∙ ap (λ (x : List (List ℕ)). table_after rs x t) (sym e);
-    }
+-- the k-th item and those before it, by the items' bytes as code lends them
+module _ (m : List ℕ) {b : List ℕ} (e : b ≡ item_bytes m) {k : ℕ} (h : k < item_count m) where
+  pub low : k * 72 + 70 ≤ length b
+  low = omega (arith, ap length e, items_long m)
 
--- by what was lent and counted
-pub of_message : (rs : List (List ℕ)) (t : List ℕ) {its its' : List (List ℕ)} → its ≡ its' → {r : Bool} {t' : List ℕ}
-    → WithCodes rs its t r t' → WithCodes rs its' t r t'
-of_message rs t e w =
-    record {
-      faulty = w.faulty ∙ ap (is_faulty rs) e;
-      codes = w.codes ∙ ap (λ (x : List (List ℕ)). table_after rs x t) e;
-    }
+  before : items_in (take (k * 72) b) ≡ take k (items_of m)
+  before =
+      let n : length (take (k * 72) b) ≡ k * 72 = length-take-le (k * 72) b (omega (arith, low)) in
+      let c : length (take (k * 72) b) / 72 ≡ k = omega (arith, n) in
+      ap (λ (i : ℕ). groups 72 70 i (take (k * 72) b)) c
+      ∙ cut_groups 72 70 k b (lit≤ tt)
+      ∙ sym (front_groups 72 70 (item_count m) b k (omega arith))
+      ∙ ap (λ (x : List ℕ). take k (groups 72 70 (item_count m) x)) e
+      ∙ ap (take k) (cut_groups 72 70 (item_count m) (drop 34 m) (lit≤ tt))
+
+  own_item : take 70 (drop (k * 72) b) ≡ get_or (items_of m) k []
+  own_item =
+      sym (group_at 72 70 (item_count m) b k h)
+      ∙ ap (λ (x : List ℕ). get_or (groups 72 70 (item_count m) x) k []) e
+      ∙ ap (λ (x : List (List ℕ)). get_or x k []) (cut_groups 72 70 (item_count m) (drop 34 m) (lit≤ tt))
+
+  pub item_lent : (rs : List (List ℕ)) {earlier it : List ℕ} → earlier ≡ take (k * 72) b → it ≡ take 70 (drop (k * 72) b)
+      → item_code rs (items_in earlier) it ≡ item_code rs (take k (items_of m)) (get_or (items_of m) k [])
+  item_lent rs {earlier} {it} e q =
+      ap (λ (x : List (List ℕ)). item_code rs x it) (ap items_in e ∙ before) ∙ ap (item_code rs (take k (items_of m))) (q ∙ own_item)

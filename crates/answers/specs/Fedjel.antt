@@ -16,6 +16,14 @@ head_of m = take 32 m
 abbrev pub items_of : List ℕ → List (List ℕ)
 items_of m = groups 72 70 (item_count m) (drop 34 m)
 
+-- their bytes, end to end, each with its ending
+abbrev pub item_bytes : List ℕ → List ℕ
+item_bytes m = take (item_count m * 72) (drop 34 m)
+
+-- the items of such bytes, without their endings
+abbrev pub items_in : List ℕ → List (List ℕ)
+items_in b = groups 72 70 (length b / 72) b
+
 -- the foot and its ending
 abbrev pub foot_ended : List ℕ → List ℕ
 foot_ended m = drop (34 + item_count m * 72) m

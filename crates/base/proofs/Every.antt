@@ -1,10 +1,9 @@
 -- Walks that ask whether every byte passes a test: what the bytes passed decided, with those that are left, decides as the whole does.
 -- Assumes nothing.
 use mathlib.Core.Path.{◌≡◌, refl, sym, ◌∙◌}
-use mathlib.Core.Bool.{Bool, true, false, ◌&&◌, and_assoc, and-true, and-false, false≢true}
+use mathlib.Core.Bool.{Bool, true, false, ◌&&◌, and_assoc, and-true, false≢true}
 use mathlib.Core.List.{List, [], ◌∷◌}
 use Prim.Native.Nat.{ℕ, zero, suc, ◌+◌, ◌<◌, ◌≤◌}
-use native.Mathlib.Omega.{arith}
 use lib.ListN.{length, get_or, take, drop}
 use Rattle.base.specs.Bytes.{every}
 use Rattle.base.proofs.Walk.{step, done}
@@ -28,16 +27,6 @@ module _ {f : ℕ → Bool} {s : List ℕ} {ok : Bool} {i : ℕ} (w : Passed f s
   -- one byte on
   pub on : i < length s → (r : Bool) → r ≡ f (get_or s i 0) → Passed f s (ok && r) (i + 1)
   on h r e = record { decides = simp (e, and_assoc) (simp (step s i h) at w.decides) }
-
--- a byte that fails decides the whole
-pub stops : {f : ℕ → Bool} {s : List ℕ} {i : ℕ} → Passed f s true i → i < length s → f (get_or s i 0) ≡ false → false ≡ every f s
-stops {f} {s} {i} w h e = simp (step s i h, e) at w.decides
-
--- a byte that fails, at any place
-pub fails : (f : ℕ → Bool) (s : List ℕ) (i : ℕ) → i < length s → f (get_or s i 0) ≡ false → every f s ≡ false
-fails f [] i h e = absurd (omega arith)
-fails f (b ∷ bs) zero h e = simp e
-fails f (b ∷ bs) (suc i) h e = simp (fails f bs i (omega arith) e, and-false)
 
 -- what passes one test passes another that follows from it
 pub weaker : (f g : ℕ → Bool) → ((b : ℕ) → f b ≡ true → g b ≡ true) → (s : List ℕ) → every f s ≡ true → every g s ≡ true

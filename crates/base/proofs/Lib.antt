@@ -7,4 +7,5 @@ pub mod Put
 pub mod Written
 pub mod Tables
 pub mod Groups
+pub mod Chunks
 pub mod Order

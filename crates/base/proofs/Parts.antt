@@ -12,10 +12,6 @@ use lib.Seq.{take_all, take-nil, take-take, drop-drop, length-take-le}
 pub tail : (s : List ℕ) (a : ℕ) → take (length s - a) (drop a s) ≡ drop a s
 tail s a = take_all (length s - a) (drop a s) (omega (arith, length-drop a s))
 
--- a part from 0 is a take
-pub front : (s : List ℕ) (e : ℕ) → take (e - 0) (drop 0 s) ≡ take e s
-front s e = rw sub-zero
-
 -- a part from a to e has e - a elements
 pub part_length : (s : List ℕ) (a e : ℕ) → a ≤ e → e ≤ length s → length (take (e - a) (drop a s)) ≡ e - a
 part_length s a e h k = length-take-le (e - a) (drop a s) (omega (arith, length-drop a s))

@@ -1,7 +1,7 @@
 -- Two lists that are walked side by side: what is left of the two is the same if the two are.
 -- Assumes nothing.
 use mathlib.Core.Path.{◌≡◌, refl, sym, ap, ◌∙◌}
-use mathlib.Core.Bool.{Bool, true, false, ◌&&◌, and-true, and-false, and_assoc, false≢true}
+use mathlib.Core.Bool.{Bool, true, false, and-false, false≢true}
 use mathlib.Core.List.{List, [], ◌∷◌}
 use Prim.Native.Nat.{ℕ, suc, ◌+◌, ◌<◌, ◌≤◌}
 use lib.ListN.{length, get_or, drop}
@@ -34,20 +34,6 @@ module _ {s t : List ℕ} {i : ℕ} (w : Walked s t i) where
 
     pub on : get_or s i 0 ≡ get_or t i 0 → Walked s t (i + 1)
     on e = record { left = simp (step s i h, step t i k, eq-eqb (get_or s i 0) (get_or t i 0) e) at w.left }
-
--- what the bytes walked over decided, with what is left of the two, decides as the whole does
-pub record Compared (s t : List ℕ) (ok : Bool) (i : ℕ) : Type 0 where
-  pub decides : ok && same (drop i s) (drop i t) ≡ same s t
-
-pub compare : (s t : List ℕ) → Compared s t true 0
-compare s t = record { decides = refl }
-
-module _ {s t : List ℕ} {ok : Bool} {i : ℕ} (w : Compared s t ok i) where
-  pub compared : length s ≤ i → length t ≤ i → ok ≡ same s t
-  compared h k = sym (and-true ok) ∙ simp (done s i h, done t i k) at w.decides
-
-  pub compared_on : i < length s → i < length t → (r : Bool) → r ≡ eqb (get_or s i 0) (get_or t i 0) → Compared s t (ok && r) (i + 1)
-  compared_on h k r e = record { decides = simp (e, and_assoc) (simp (step s i h, step t i k) at w.decides) }
 
 -- two that are the same, either way round
 pub same_true : (s t : List ℕ) → same s t ≡ true → s ≡ t

@@ -1,6 +1,7 @@
 -- Lists of bytes: text as bytes, fields by their positions, a test that every byte passes, and writing over a part.
 -- Assumes nothing.
-use Rattle.std.specs.Prelude.{ℕ, ◌+◌, ◌-◌, Bool, true, false, ◌&&◌, List, [], ◌∷◌, ◌++◌, length, take, drop, eqb}
+use Rattle.std.specs.Prelude.{ℕ, ◌+◌, ◌-◌, Bool, List, [], ◌∷◌, ◌++◌, length, take, drop, bytes_eq}
+use Rattle.std.specs.List.{list_all}
 use Prim.Native.Char.{code}
 use Prim.Native.String.{String}
 
@@ -15,15 +16,11 @@ field a b r = take (b + 1 - a) (drop (a - 1) r)
 
 -- every byte passes the test
 abbrev pub every : (ℕ → Bool) → List ℕ → Bool
-every f [] = true
-every f (b ∷ bs) = f b && every f bs
+every = list_all
 
 -- the two lists are the same
 abbrev pub same : List ℕ → List ℕ → Bool
-same [] [] = true
-same [] (y ∷ ys) = false
-same (x ∷ xs) [] = false
-same (x ∷ xs) (y ∷ ys) = eqb x y && same xs ys
+same = bytes_eq
 
 -- a list with d over it from place a on, counted from 0
 unfoldable pub over : List ℕ → ℕ → List ℕ → List ℕ

@@ -1,6 +1,7 @@
 -- Bytes cut into groups of one size, and what some of them pass, all of them, or the first.
 -- Assumes nothing.
-use Rattle.std.specs.Prelude.{ℕ, zero, suc, Bool, true, false, cond, ◌&&◌, ◌||◌, List, [], ◌∷◌, take, drop}
+use Rattle.std.specs.List.{list_all, list_any}
+use Rattle.std.specs.Prelude.{ℕ, zero, suc, Bool, cond, List, [], ◌∷◌, take, drop}
 
 -- k groups of w bytes, each begun s bytes after the one before
 abbrev pub groups : ℕ → ℕ → ℕ → List ℕ → List (List ℕ)
@@ -9,13 +10,11 @@ groups s w (suc k) l = take w l ∷ groups s w k (drop s l)
 
 -- some element passes the test
 abbrev pub some : {A : Type 0} → (A → Bool) → List A → Bool
-some f [] = false
-some f (x ∷ xs) = f x || some f xs
+some = list_any
 
 -- every element passes the test
 abbrev pub all : {A : Type 0} → (A → Bool) → List A → Bool
-all f [] = true
-all f (x ∷ xs) = f x && all f xs
+all = list_all
 
 -- the place of the first element that passes the test, counted from 0; the length where none does
 abbrev pub place : {A : Type 0} → (A → Bool) → List A → ℕ

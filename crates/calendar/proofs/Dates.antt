@@ -1,11 +1,11 @@
 -- A date by its parts: what is known of the year, the month and the day, and the day number that they have.
 -- Assumes nothing.
-use mathlib.Core.Path.{◌≡◌, refl, sym, ◌∙◌}
-use mathlib.Core.Bool.{Bool, true, false, not, ◌&&◌}
+use mathlib.Core.Path.{◌≡◌, refl}
+use mathlib.Core.Bool.{Bool, true, false, ◌&&◌}
 use Prim.Native.Nat.{ℕ, zero, suc, ◌+◌, ◌-◌, ◌<◌, ◌≤◌}
 use native.Mathlib.Omega.{arith}
 use lib.Dec.{leb}
-use borrow.Author.Tests.{leb-true, le-leb, not-true, not-false}
+use borrow.Author.Tests.{leb-true, le-leb}
 use Rattle.base.proofs.Every.{both}
 use Rattle.calendar.specs.Calendar.{year_of, month_of, day_of, written, leap, month_length, year_length, is_date, days_of_years, days_of_months, days_to}
 use Rattle.calendar.specs.Calendar.{day_number}
@@ -114,10 +114,3 @@ no_number n e = simp e
 pub from_one : (n : ℕ) → is_date n ≡ true → 1 ≤ day_number n
 unfolding days_to
 from_one n e = rw (is_number n e) (omega (arith, (parts n e).first_day))
-
--- what a test of a negated answer says of what was asked
-pub no : {r v : Bool} → r ≡ v → not r ≡ true → v ≡ false
-no {r} e t = sym e ∙ not-true r t
-
-pub yes : {r v : Bool} → r ≡ v → not r ≡ false → v ≡ true
-yes {r} e t = sym e ∙ not-false r t

@@ -2,6 +2,7 @@
 -- Assumes nothing.
 use mathlib.Core.Path.{◌≡◌, refl, sym, subst, ◌∙◌}
 use mathlib.Core.Bool.{Bool, true, false, ◌&&◌}
+use mathlib.Core.List.{List}
 use mathlib.Core.Logic.{◌⊎◌, inl, inr, ⊎_elim}
 use Prim.Native.Nat.{ℕ, zero, suc, ◌+◌, ◌-◌, ◌<◌, ◌≤◌}
 use native.Mathlib.Nat.{not-suc-le-zero, le_of_suc-le-suc, eq-or-lt_of_le, le_refl, le_trans}
@@ -9,7 +10,10 @@ use native.Mathlib.Decide.{le_ind}
 use native.Mathlib.Omega.{arith}
 use lib.Dec.{leb, ltb}
 use borrow.Author.Tests.{ltb-true, ltb-false, le-leb, lt-leb}
+use lib.ListN.{length}
 use Rattle.base.proofs.Every.{both}
+use Rattle.digits.specs.Digits.{number_of}
+use Rattle.digits.proofs.Value.{number_lt}
 
 -- the test passes at each number below n
 abbrev pub all : (ℕ → Bool) → ℕ → Bool
@@ -40,3 +44,7 @@ at_most a b k h =
 -- what never falls from a number to the next never falls
 pub rising : (f : ℕ → ℕ) → ((k : ℕ) → f k ≤ f (suc k)) → (a b : ℕ) → a ≤ b → f a ≤ f b
 rising f s a b h = le_ind (λ (m : ℕ). f a ≤ f m) (le_refl (f a)) (λ m k i. le_trans i (s m)) b h
+
+-- the number of a field of eight digits
+pub eight : (s : List ℕ) → length s ≡ 8 → number_of s < 100000000
+eight s h = rw h at (number_lt s)

@@ -16,6 +16,7 @@ ghost use Rattle.calendar.specs.Calendar.{
 ghost use Rattle.calendar.specs.Workdays.{days_to_eighth, is_due};
 
 // Every fourth year is a leap year, but of the hundreds only every fourth (01, Digits and dates: Gregorian).
+#[tactic(auto, unfolding(crate::specs::Calendar::leap))]
 fn is_leap(y: u32) -> bool
     ensures { result ≡ leap y }
 {
@@ -52,6 +53,7 @@ fn days_of_months(is_leap: bool, m: u32) -> u32
 }
 
 // Whether the number yyyymmdd is a date, years 0001 to 9999 (01, Digits and dates).
+#[tactic(auto, unfolding(crate::specs::Calendar::is_date))]
 pub fn is_date(n: u32) -> bool
     ensures { result ≡ is_date n }
 {
@@ -86,6 +88,7 @@ fn days_to(n: u32) -> u32
 }
 
 // The day number of a date, 1 for 1 January of year 1; 0 where the number is no date.
+#[tactic(auto, unfolding(crate::specs::Calendar::day_number))]
 pub fn day_number(n: u32) -> u32
     ensures { result ≡ day_number n }
 {
@@ -96,6 +99,7 @@ pub fn day_number(n: u32) -> u32
 }
 
 // Whether both are dates and the later one lies from the first to so many days after it, calendar days, both ends in (01, head date).
+#[tactic(auto, using(crate::proofs::Dates::is_number), unfolding(crate::specs::Calendar::is_within))]
 pub fn is_within(first: u32, later: u32, days: u32) -> bool
     ensures { result ≡ is_within first later days }
 {
@@ -114,6 +118,7 @@ pub fn is_within(first: u32, later: u32, days: u32) -> bool
 }
 
 // Whether both are dates and a is the earlier. The numbers yyyymmdd themselves are compared: they rise with the days.
+#[tactic(auto, using(crate::proofs::Order::same_test), unfolding(crate::specs::Calendar::is_before))]
 pub fn is_before(a: u32, b: u32) -> bool
     ensures { result ≡ is_before a b }
 {
@@ -152,30 +157,26 @@ pub fn is_due(e: u32, d: u32) -> bool
     (a >= 1) & (b - a <= days_to_eighth(a))
 }
 
-// What a field that should hold a date holds (01, Digits and dates).
-#[derive(Clone, Copy)]
-pub enum DateField {
-    // A date, as a number yyyymmdd.
-    Date(u32),
+// Why a field holds no date (01, Digits and dates).
+#[derive(Clone, Copy, PartialEq, Eq)]
+pub enum DateFault {
     // Not eight digits.
     NotDigits,
     // Eight digits that are no date.
     NoDate,
 }
 
-// The date that the eight digits of a field say.
-pub fn read_date(s: &[u8]) -> DateField
+// The date that the eight digits of a field say, as a number yyyymmdd.
+#[tactic(auto, using(crate::proofs::Numbers::eight), unfolding(crate::specs::DateField::date_field))]
+pub fn read_date(s: &[u8]) -> Result<u32, DateFault>
     ensures { result ≡ date_field s.now }
 {
-    if s.len() != 8 {
-        return DateField::NotDigits;
-    }
-    if !digits::is_digits(s) {
-        return DateField::NotDigits;
+    if s.len() != 8 || !digits::is_digits(s) {
+        return Err(DateFault::NotDigits);
     }
     let n = digits::number(s) as u32;
     if is_date(n) {
-        return DateField::Date(n);
+        return Ok(n);
     }
-    DateField::NoDate
+    Err(DateFault::NoDate)
 }

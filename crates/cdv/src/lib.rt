@@ -9,10 +9,7 @@ ghost use Rattle.cdv.specs.Check.{weighed, cdv, satisfies, gs1, is_ean13};
 fn at(s: &[u8], i: usize) -> u32
     ensures { (result ≡ get_or s.now i 48) × (result < 256) }
 {
-    if i < s.len() {
-        return s[i] as u32;
-    }
-    48
+    s.get(i).copied().map_or(48, u32::from)
 }
 
 // 9, 7, 3 and 1 of four sums of bytes, by doubling.
@@ -52,11 +49,7 @@ fn less(sum: u32, tens: u32) -> u32
     requires { (tens % 10 ≡ 0) × (sum < tens + tens) }
     ensures { (result % 10 ≡ sum % 10) × (result < tens) }
 {
-    let mut left = sum;
-    if left >= tens {
-        left = left - tens;
-    }
-    left
+    if sum < tens { sum } else { sum - tens }
 }
 
 // The sum is a multiple of ten: brought down below ten, it is 0.
@@ -64,29 +57,13 @@ fn is_tens(sum: u32) -> bool
     requires { sum < 1280 }
     ensures { result ≡ eqb (sum % 10) 0 }
 {
-    let mut left = sum;
-    if left >= 640 {
-        left = left - 640;
-    }
-    if left >= 320 {
-        left = left - 320;
-    }
-    if left >= 160 {
-        left = left - 160;
-    }
-    if left >= 80 {
-        left = left - 80;
-    }
-    if left >= 40 {
-        left = left - 40;
-    }
-    if left >= 20 {
-        left = left - 20;
-    }
-    if left >= 10 {
-        left = left - 10;
-    }
-    left == 0
+    let sum = less(sum, 640);
+    let sum = less(sum, 320);
+    let sum = less(sum, 160);
+    let sum = less(sum, 80);
+    let sum = less(sum, 40);
+    let sum = less(sum, 20);
+    less(sum, 10) == 0
 }
 
 // Any number of digits, eight at a time. The sum is brought down as it grows, so it stays below 720.
@@ -95,16 +72,15 @@ fn any(s: &[u8]) -> bool
     ensures { result ≡ satisfies s.now }
 {
     let mut sum: u32 = 0;
-    let mut i = 0;
-    while i < s.len() {
+    for i in (0..s.len()).step_by(8) {
         sum = less(sum, 360) + eight(s, i);
-        i += 8;
     }
     is_tens(sum)
 }
 
 // The digits satisfy the check digit of annex 6: weights 9, 7, 3, 1 repeated from the left, a sum that is a multiple of
 // ten. Banks and accounts have eight digits or sixteen: straight on, by the same step, the sum brought down once.
+#[tactic(auto, unfolding(crate::specs::Check::satisfies))]
 pub fn satisfies(s: &[u8]) -> bool
     ensures { result ≡ satisfies s.now }
 {
@@ -122,6 +98,7 @@ pub fn satisfies(s: &[u8]) -> bool
 
 // Thirteen digits with weights 1 and 3 in turn, a sum that is a multiple of ten (01, Initiator; GS1). There is no
 // fourteenth: behind the end is '0'.
+#[tactic(auto, unfolding(crate::specs::Check::is_ean13))]
 pub fn is_ean13(s: &[u8]) -> bool
     ensures { result ≡ is_ean13 s.now }
 {
@@ -132,10 +109,8 @@ pub fn is_ean13(s: &[u8]) -> bool
         return false;
     }
     let mut sum: u32 = 0;
-    let mut i = 0;
-    while i < 13 {
+    for i in (0..13).step_by(2) {
         sum = sum + two(s, i);
-        i += 2;
     }
     is_tens(sum)
 }

@@ -10,13 +10,13 @@ use Rattle.digits.specs.Digits.{is_digits}
 use Rattle.cdv.specs.Check.{satisfies}
 use Rattle.account.specs.Account.{own, account_of}
 use Rattle.account.proofs.AsBefore.{by_own}
-use Rattle.findings.specs.declared.Finding.TheVariants.{Right, Fault}
+use Rattle.std.specs.Prelude.{Err}
 use Rattle.findings.specs.declared.Kind.TheVariants.{Form, CheckDigit}
-use Rattle.findings.specs.Findings.{unless}
+use Rattle.findings.specs.Findings.{Right, unless}
 use Rattle.findings.specs.Before.{found_before}
 use Rattle.checked.specs.Checked.{account_found}
 
-by_tests : (a b : Bool) → cond a (cond b Right (Fault CheckDigit)) (Fault Form) ≡ unless a Form (unless b CheckDigit Right)
+by_tests : (a b : Bool) → cond a (cond b Right (Err CheckDigit)) (Err Form) ≡ unless a Form (unless b CheckDigit Right)
 by_tests true true = refl
 by_tests true false = refl
 by_tests false b = refl

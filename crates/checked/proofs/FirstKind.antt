@@ -12,16 +12,14 @@ use Rattle.base.proofs.Tables.{ByRows, through}
 use Rattle.text.specs.Text.{is_blank}
 use Rattle.digits.specs.Digits.{is_digits, number_of}
 use Rattle.cdv.specs.Check.{satisfies, is_ean13}
-use Rattle.account.specs.declared.Account.TheVariants.{Good}
-use Rattle.account.specs.Account.{first_eight, last_eight, account_rows, account_of}
+use Rattle.account.specs.Account.{Good, first_eight, last_eight, account_rows, account_of}
 use Rattle.calendar.specs.Calendar.{is_date, is_within, is_before}
 use Rattle.calendar.specs.Workdays.{is_due}
 use Rattle.calendar.specs.DateField.{date_field}
-use Rattle.calendar.specs.declared.DateField.TheVariants.{Date, NotDigits, NoDate}
+use Rattle.calendar.specs.declared.DateFault.TheVariants.{NotDigits, NoDate}
+use Rattle.std.specs.Prelude.{Ok, Err}
 use Rattle.findings.specs.declared.Kind.TheVariants as kind
-use Rattle.findings.specs.declared.Finding.{Finding}
-use Rattle.findings.specs.declared.Finding.TheVariants.{Right}
-use Rattle.findings.specs.Findings.{unless, finding_number}
+use Rattle.findings.specs.Findings.{Finding, Right, unless, finding_number}
 use Rattle.fields.specs.Fields.{digits_of}
 use Rattle.fields.proofs.FirstKind.{right, must, must_not}
 use Rattle.checked.specs.Checked.{is_tax_form, initiator_found, is_provider_form, provider_found}
@@ -68,7 +66,7 @@ date : (asks : ℕ → Finding) (s : List ℕ) {rs : List Row} → ByRows findin
 unfolding date_field
 date asks s {rs} w = go (digits_of 8 s) (is_date (number_of s))
   where
-    go : (d e : Bool) → ByRows finding_number (date_found asks (cond d (cond e (Date (number_of s)) NoDate) NotDigits)) ((4, not d) ∷ (6, not e) ∷ rs)
+    go : (d e : Bool) → ByRows finding_number (date_found asks (cond d (cond e (Ok (number_of s)) (Err NoDate)) (Err NotDigits))) ((4, not d) ∷ (6, not e) ∷ rs)
     go true true = record { is = w.is }
     go true false = record { is = refl }
     go false e = record { is = refl }

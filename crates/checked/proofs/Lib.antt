@@ -1,3 +1,2 @@
-pub mod Dates
 pub mod FirstKind
 pub mod Accounts

@@ -1,23 +1,17 @@
 -- What is found in fields with a check digit, a date or a list: nothing wrong, or the kind of its first fault, in 01's order of kinds
 -- (01, Faults of the whole message; Item rules; Digits and dates; 002 sections 1.1.1, 1.3.1, 2.1.1 and 2.3.1).
 -- Assumes nothing.
-use Rattle.std.specs.Prelude.{ℕ, Bool, cond, not, ◌&&◌, List, length, eqb}
+use Rattle.std.specs.Prelude.{ℕ, Bool, cond, not, ◌&&◌, List, length, eqb, Ok, Err}
 use Rattle.base.specs.Bytes.{ascii, field, same}
 use Rattle.text.specs.Text.{is_blank}
 use Rattle.digits.specs.Digits.{is_digits, number_of}
 use Rattle.cdv.specs.Check.{satisfies, is_ean13}
-use Rattle.account.specs.declared.Account.{Account}
-use Rattle.account.specs.declared.Account.TheVariants as account
+use Rattle.account.specs.Account.{Account}
 use Rattle.calendar.specs.Calendar.{is_within, is_before}
 use Rattle.calendar.specs.Workdays.{is_due}
-use Rattle.calendar.specs.DateField.{date_field}
-use Rattle.calendar.specs.declared.DateField.{DateField}
-use Rattle.calendar.specs.declared.DateField.TheVariants as in_field
-use Rattle.findings.specs.declared.Finding.{Finding}
-use Rattle.findings.specs.declared.Finding.TheVariants.{Right, Fault}
-use Rattle.findings.specs.declared.Kind.TheVariants.{Form, NotDigits, CheckDigit, NoDate, OutsideDays, NotListed, Other}
-use Rattle.findings.specs.declared.Kind.TheVariants.{FormOfFirstEight, FormOfLastEight, CheckDigitOverEight, CheckDigitOverSixteen}
-use Rattle.findings.specs.Findings.{unless}
+use Rattle.calendar.specs.DateField.{DateField, date_field}
+use Rattle.findings.specs.declared.Kind.TheVariants.{Form, NotDigits, CheckDigit, OutsideDays, NotListed, Other}
+use Rattle.findings.specs.Findings.{Finding, Right, unless, date_kind, account_kind}
 use Rattle.fields.specs.Fields.{digits_of}
 
 -- a tax number: A, eight digits, T, three digits
@@ -43,9 +37,8 @@ provider_found s = cond (is_provider_form s) (unless (satisfies (field 2 9 s)) C
 
 -- what is found in a date field, and what is asked of a date
 abbrev pub date_found : (ℕ → Finding) → DateField → Finding
-date_found asks (in_field.Date d) = asks d
-date_found asks in_field.NotDigits = Fault NotDigits
-date_found asks in_field.NoDate = Fault NoDate
+date_found asks (Ok d) = asks d
+date_found asks (Err f) = Err (date_kind f)
 
 -- of a date is asked that it is one of certain days
 abbrev pub one_of_days : (ℕ → Bool) → ℕ → Finding
@@ -73,8 +66,5 @@ bank_found is_listed s =
 
 -- account: the form of its halves, then its check digit (02 #102)
 abbrev pub account_found : Account → Finding
-account_found account.Good = Right
-account_found account.FormOfFirstEight = Fault FormOfFirstEight
-account_found account.FormOfLastEight = Fault FormOfLastEight
-account_found account.CheckDigitOverEight = Fault CheckDigitOverEight
-account_found account.CheckDigitOverSixteen = Fault CheckDigitOverSixteen
+account_found (Ok u) = Right
+account_found (Err f) = Err (account_kind f)

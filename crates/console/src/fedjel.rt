@@ -14,8 +14,8 @@ pub const MESSAGE: usize = LONGEST + 1;
 // The space for the file `requests`: 10,000 of 65 bytes, and one byte more. So much of a longer file isn't whole requests: refusal 11.
 pub const REQUESTS: usize = 65 * 10000 + 1;
 
-// The clearing day that the file `day` says, 0 for none. Nine bytes are no date, so more of the file isn't read.
-pub fn day(rt: &impl Files) -> u32 {
+// The clearing day that the file `day` says, where it says one. Nine bytes are no date, so more of the file isn't read.
+pub fn day(rt: &impl Files) -> Option<u32> {
     let mut space = [0u8; 9];
     let n = read_file(rt, "day", &mut space);
     files::day(&space[..n])

@@ -48,6 +48,27 @@ pub fn read_file(rt: &impl Files, path: &str, space: &mut [u8]) -> usize
     read_full(&mut file, space)
 }
 
+// How many bytes each of the three files has that the clearing day and the lists come from.
+#[derive(Clone, Copy)]
+pub struct Lengths {
+    pub day: usize,
+    pub banks: usize,
+    pub known: usize,
+}
+
+// The bytes of the files `day`, `banks` and `known`, each at the front of its space, and how many.
+pub fn read_files(rt: &impl Files, day: &mut [u8], banks: &mut [u8], known: &mut [u8]) -> Lengths
+    ensures day { IsPrefixLen result.day day.new }
+    ensures banks { IsPrefixLen result.banks banks.new }
+    ensures known { IsPrefixLen result.known known.new }
+{
+    Lengths {
+        day: read_file(rt, "day", day),
+        banks: read_file(rt, "banks", banks),
+        known: read_file(rt, "known", known),
+    }
+}
+
 // How many arguments the program was started with, its own name among them.
 pub fn argument_count(rt: &impl Env) -> usize {
     let mut none = [0u8; 0];
@@ -63,31 +84,21 @@ pub fn argument_count(rt: &impl Env) -> usize {
 pub fn read_argument(rt: &impl Env, i: usize, space: &mut [u8]) -> usize
     ensures { IsPrefixLen result space.new }
 {
-    match rt.arg(i, space) {
-        Ok(n) => n,
-        Err(_) => 0,
-    }
-}
-
-// What an argument of digits says.
-#[derive(Clone, Copy)]
-pub enum Argument {
-    Number(u32),
-    Wrong,
+    rt.arg(i, space).unwrap_or(0)
 }
 
 // The number of so many digits at least and at most, and never more than nine, which a u32 holds.
-pub fn number_of(s: &[u8], least: usize, most: usize) -> Argument
+#[tactic(auto, using(crate::proofs::Numbers::small), unfolding(crate::specs::Arguments::number_of_word))]
+pub fn number_of(s: &[u8], least: usize, most: usize) -> Option<u32>
     ensures { result ≡ number_of_word least most s.now }
 {
-    if !((s.len() >= least) & ((s.len() <= most) & (s.len() <= 9))) {
-        return Argument::Wrong;
+    if !(least..=most.min(9)).contains(&s.len()) {
+        return None;
     }
     if !digits::is_digits(s) {
-        return Argument::Wrong;
+        return None;
     }
-    let n = digits::number(s) as u32;
-    Argument::Number(n)
+    Some(digits::number(s) as u32)
 }
 
 // Bytes on a stream: the runtime's own is standard output.

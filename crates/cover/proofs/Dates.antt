@@ -8,7 +8,7 @@ use lib.Dec.{eqb, leb}
 use borrow.Author.Tests.{eqb-true, eqb-false, lt-ltb, le-ltb, leb-true, leb-false, le-leb, lt-leb}
 use Rattle.calendar.specs.Calendar.{day_number}
 use Rattle.calendar.specs.Workdays.{weekday, is_workday}
-use Rattle.calendar.specs.declared.DateField.TheVariants.{Date}
+use Rattle.std.specs.Prelude.{Ok}
 use Rattle.calendar.proofs.Numbers.{all, under}
 use Rattle.cover.specs.Head.{days_back, workday_before, sent_on}
 
@@ -48,7 +48,7 @@ turned e n b h = go (leb (e - n) b) refl
         let i : leb (e - b) n ≡ false = lt-leb (e - b) n (omega (arith, k, h)) in
         simp i
 
-pub late : (e d : ℕ) → day_number e < day_number d → false ≡ sent_on e (Date d)
+pub late : (e d : ℕ) → day_number e < day_number d → false ≡ sent_on e (Ok d)
 unfolding sent_on
 late e d h = go (leb (workday_before (day_number e)) (day_number d)) (lt-leb (day_number d) (day_number e) h)
   where
@@ -56,7 +56,7 @@ late e d h = go (leb (workday_before (day_number e)) (day_number d)) (lt-leb (da
     go true q = sym q
     go false q = refl
 
-pub sent : (e d : ℕ) → day_number d ≤ day_number e → leb (day_number e - day_number d) (days_back (day_number e)) ≡ sent_on e (Date d)
+pub sent : (e d : ℕ) → day_number d ≤ day_number e → leb (day_number e - day_number d) (days_back (day_number e)) ≡ sent_on e (Ok d)
 unfolding sent_on workday_before
 sent e d h = turned (day_number e) (day_number d) (days_back (day_number e)) h
 

@@ -5,6 +5,7 @@ use mathlib.Core.Bool.{Bool, true, false, cond, not, ◌&&◌}
 use mathlib.Core.List.{List, []}
 use Prim.Native.Nat.{ℕ, ◌%◌}
 use lib.Dec.{leb, eqb}
+use Rattle.std.specs.Prelude.{Result, Ok, Err}
 use lib.ListN.{length, get_or, take}
 use Rattle.base.specs.Bytes.{field, over}
 use Rattle.base.specs.Groups.{some, place}
@@ -12,11 +13,9 @@ use Rattle.base.specs.Order.{Reordered}
 use Rattle.base.proofs.Order.{some_order}
 use Rattle.digits.specs.Digits.{number_of}
 use Rattle.calendar.specs.Calendar.{is_date}
-use Rattle.lent.specs.Lent.{by}
+use Rattle.lent.specs.Lent.{Outcome, by}
 use Rattle.lent.specs.declared.Refusal.{Refusal}
 use Rattle.lent.specs.declared.Refusal.TheVariants as refusal
-use Rattle.lent.specs.declared.Outcome.{Outcome}
-use Rattle.lent.specs.declared.Outcome.TheVariants.{Done, Refused as RefusedBy}
 use Rattle.requests.specs.Requests.{requests_of, has_id, keeps, are_requests, is_request_list, is_asked, request_of}
 use Rattle.requests.proofs.Order.{requests_order, request_order}
 use Rattle.answers.specs.Fedjel.{item_count, head_of, items_of, is_fedjel}
@@ -25,9 +24,7 @@ use Rattle.answers.proofs.Order.{codes_order}
 use Rattle.cover.specs.Head.{head_rows}
 use Rattle.cover.specs.Codes.{message_rows, code_with, message_code}
 use Rattle.cover.specs.Judging.{lent_refused, judged, table_by, is_answered, standing_of}
-use Rattle.cover.specs.declared.Answer.TheVariants.{Judged, Refused}
 use Rattle.cover.specs.declared.Standing.{Standing}
-use Rattle.cover.specs.declared.Standing.TheVariants as standing
 
 -- the message code sees the requests by the head's bank and by the items' codes
 head_order : (e : ℕ) (h : List ℕ) {rs rs' : List (List ℕ)} → Reordered rs rs' → head_rows e rs h ≡ head_rows e rs' h
@@ -54,7 +51,7 @@ module _ (e : ℕ) (m l l' : List ℕ) (n : length l ≡ length l') (o : Reorder
 
   -- what is refused, by whether the list is one
   abbrev refused_by : Bool → Outcome
-  refused_by b = cond (is_date e) (cond b (cond (is_fedjel m) Done (RefusedBy refusal.Fedjel)) (RefusedBy refusal.RequestList)) (RefusedBy refusal.NotADay)
+  refused_by b = cond (is_date e) (cond b (cond (is_fedjel m) (Ok (tt {0})) (Err refusal.Fedjel)) (Err refusal.RequestList)) (Err refusal.NotADay)
 
   lent_order : lent_refused e l m ≡ lent_refused e l' m
   unfolding lent_refused
@@ -65,8 +62,8 @@ module _ (e : ℕ) (m l l' : List ℕ) (n : length l ≡ length l') (o : Reorder
   refused_first {A} x y f = go (is_date e)
     where
       go : (d : Bool)
-          → by (cond d (RefusedBy refusal.RequestList) (RefusedBy refusal.NotADay)) x f
-          ≡ by (cond d (RefusedBy refusal.RequestList) (RefusedBy refusal.NotADay)) y f
+          → by (cond d (Err refusal.RequestList) (Err refusal.NotADay)) x f
+          ≡ by (cond d (Err refusal.RequestList) (Err refusal.NotADay)) y f
       go true = refl
       go false = refl
 
@@ -83,8 +80,8 @@ module _ (e : ℕ) (m l l' : List ℕ) (n : length l ≡ length l') (o : Reorder
   pub judged_order : (t : List ℕ) → judged e l m t ≡ judged e l' m t
   unfolding judged
   judged_order t =
-      either _ _ Refused
-      (λ r. ap (λ (c : ℕ). cond (leb (item_count m) (length t)) (Judged c (item_count m)) (Refused refusal.Room)) (message_order e m o r))
+      either _ _ Err
+      (λ r. ap (λ (c : ℕ). cond (leb (item_count m) (length t)) (Ok (record { code = c; items = item_count m })) (Err refusal.Room)) (message_order e m o r))
 
   pub table_order : (t : List ℕ) → table_by e l m t ≡ table_by e l' m t
   unfolding table_by
@@ -94,13 +91,17 @@ module _ (e : ℕ) (m l l' : List ℕ) (n : length l ≡ length l') (o : Reorder
 
   pub standing_order : (id : List ℕ) → standing_of e l m id ≡ standing_of e l' m id
   unfolding standing_of is_answered
-  standing_order id = either _ _ standing.Refused of
+  standing_order id = either _ _ Err of
     where
-      told : Bool → ℕ → List ℕ → Standing
+      told : Bool → ℕ → List ℕ → Result Standing Refusal
       told a c q =
           cond (a && (eqb c 0 && some (rightly q) (items_of m)))
-          (standing.Item (place (rightly q) (items_of m)) (answer_of (get_or (items_of m) (place (rightly q) (items_of m)) [])) (number_of (field 50 65 q)))
-          (standing.Refused refusal.Standing)
+          (Ok (record {
+            place = place (rightly q) (items_of m);
+            answer = answer_of (get_or (items_of m) (place (rightly q) (items_of m)) []);
+            sum = number_of (field 50 65 q);
+          }))
+          (Err refusal.Standing)
 
       of : are_requests (requests_of l) ≡ true
           → told (is_asked id (requests_of l)) (message_code e (requests_of l) m) (request_of id (requests_of l))

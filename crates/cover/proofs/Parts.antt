@@ -1,23 +1,26 @@
 -- The message code, part by part as the code asks for it.
 -- Assumes nothing.
 use mathlib.Core.Path.{◌≡◌, refl, sym, ap, ◌∙◌}
-use mathlib.Core.Bool.{Bool, true, false, cond}
+use mathlib.Core.Bool.{Bool, true, false, cond, ◌&&◌}
 use mathlib.Core.List.{List, [], ◌∷◌, ◌++◌}
-use Prim.Native.Nat.{ℕ, ◌+◌, ◌-◌, ◌*◌, ◌%◌, ◌≤◌, ◌<◌}
-use native.Mathlib.Nat.{add-sub_cancel_left}
+use Prim.Native.Nat.{ℕ, ◌+◌, ◌-◌, ◌*◌, ◌%◌, ◌≤◌}
 use native.Mathlib.Omega.{arith}
-use lib.Dec.{leb, eqb}
-use lib.ListN.{length, take, drop, drop_of_length-le}
+use lib.Dec.{leb, eqb, lit≤}
+use lib.ListN.{length, take, length-drop}
+use denote.Ref.{Bor}
+use Rattle.std.specs.Prelude.{Some, None}
+use Rattle.std.specs.Slice.Iter.{chunks_exact_rest, chunks_exact_size, chunks_exact_steps}
+use Rattle.std.specs.declared.slice.ChunksExact.{ChunksExact}
 use borrow.Author.Tests.{leb-true, eqb-true, eq-eqb, ne_eqb}
 use Rattle.base.specs.Bytes.{field}
-use Rattle.base.specs.Groups.{groups, all}
+use Rattle.base.specs.Groups.{all}
 use Rattle.base.specs.Tables.{first_given}
 use Rattle.base.proofs.Every.{both}
-use Rattle.base.proofs.Groups.{group_next, length_groups}
+use Rattle.base.proofs.Chunks.{turn_on, turn_ends}
 use Rattle.base.proofs.Tables.{numbered, rows_then, no_row}
 use Rattle.text.specs.Text.{is_plain}
 use Rattle.digits.specs.Digits.{is_digits}
-use Rattle.answers.specs.Fedjel.{item_count, head_of, items_of, foot_of, is_fedjel}
+use Rattle.answers.specs.Fedjel.{item_count, head_of, items_in, items_of, foot_ended, foot_of, is_fedjel}
 use Rattle.cover.specs.Head.{head_rows}
 use Rattle.cover.specs.Codes.{is_plain_message, is_typed, whole_rows, whole_rows_of_all, last_rows, message_rows, code_with}
 
@@ -35,44 +38,40 @@ long m e =
     let b = eqb-true ((length m - 78) % 72) 0 two.0 in
     record { least = a; exact = omega (arith, a, b) }
 
--- the rows of items one after the other
-module _ (b : List ℕ) (n : ℕ) where
-  abbrev its : List (List ℕ)
-  its = groups 72 70 n b
+-- the rows of items one after the other: those of what is left decide as all do
+pub record Faultless (b : List ℕ) (s : ChunksExact ℕ) : Type 0 where
+  pub size : chunks_exact_size s ≡ 72
+  pub left : first_given (whole_rows_of_all (items_in (chunks_exact_rest s))) ≡ first_given (whole_rows_of_all (items_in b))
 
-  pub record Faultless (k : ℕ) : Type 0 where
-    pub left : first_given (whole_rows_of_all (drop k its)) ≡ first_given (whole_rows_of_all its)
+pub faultless : {b : List ℕ} {s : ChunksExact ℕ} → chunks_exact_rest s ≡ b → chunks_exact_size s ≡ 72 → Faultless b s
+faultless r e = record { size = e; left = ap (λ (x : List ℕ). first_given (whole_rows_of_all (items_in x))) r }
 
-  pub faultless : Faultless 0
-  faultless = record { left = refl }
+numbered_item : (it : List ℕ) → numbered (whole_rows it) ≡ true
+unfolding whole_rows
+numbered_item it = refl
 
-  numbered_item : (it : List ℕ) → numbered (whole_rows it) ≡ true
-  unfolding whole_rows
-  numbered_item it = refl
+module _ {b : List ℕ} {s : ChunksExact ℕ} (w : Faultless b s) (t : ChunksExact ℕ) where
+  pub no_fault : chunks_exact_steps s None t → 0 ≡ first_given (whole_rows_of_all (items_in b))
+  unfolding whole_rows_of_all
+  no_fault k = ap (λ (x : List (List ℕ)). first_given (whole_rows_of_all x)) (sym (turn_ends 72 70 (lit≤ tt) (omega arith) s t w.size k)) ∙ w.left
 
-  module _ {k : ℕ} (w : Faultless k) where
-    pub no_fault : n ≤ k → 0 ≡ first_given (whole_rows_of_all its)
+  module _ (x : Bor (List ℕ)) (k : chunks_exact_steps s (Some x) t) {it : List ℕ} (front : it ≡ take 70 x.now) {c : ℕ}
+      (e : c ≡ first_given (whole_rows it)) where
+    turn : cond (eqb c 0) (first_given (whole_rows_of_all (items_in (chunks_exact_rest t)))) c ≡ first_given (whole_rows_of_all (items_in b))
     unfolding whole_rows_of_all
-    no_fault h =
-        let g : length its ≤ k = omega (arith, h, length_groups 72 70 n b) in
-        ap (λ (x : List (List ℕ)). first_given (whole_rows_of_all x)) (sym (drop_of_length-le its g)) ∙ w.left
+    turn =
+        let rest = whole_rows_of_all (items_in (chunks_exact_rest t)) in
+        ap (λ (i : ℕ). cond (eqb i 0) (first_given rest) i) e
+        ∙ sym (rows_then (whole_rows it) rest (numbered_item it))
+        ∙ ap (λ (y : List ℕ). first_given (whole_rows y ++ rest)) front
+        ∙ ap (λ (y : List (List ℕ)). first_given (whole_rows_of_all y)) (sym (turn_on 72 70 (lit≤ tt) (omega arith) s t w.size x k).1)
+        ∙ w.left
 
-    module _ (h : k < n) {c : ℕ} (e : c ≡ first_given (whole_rows (take (k * 72 + 70 - k * 72) (drop (k * 72) b)))) where
-      turn : cond (eqb c 0) (first_given (whole_rows_of_all (drop (k + 1) its))) c ≡ first_given (whole_rows_of_all its)
-      unfolding whole_rows_of_all
-      turn =
-          let it = take (k * 72 + 70 - k * 72) (drop (k * 72) b) in
-          let rest = whole_rows_of_all (drop (k + 1) its) in
-          ap (λ (x : ℕ). cond (eqb x 0) (first_given rest) x) e
-          ∙ sym (rows_then (whole_rows it) rest (numbered_item it))
-          ∙ ap (λ (x : List (List ℕ)). first_given (whole_rows_of_all x)) (sym (group_next 72 70 n b k h))
-          ∙ w.left
+    pub a_fault : (c ≡ 0 → ⊥) → c ≡ first_given (whole_rows_of_all (items_in b))
+    a_fault f = simp (ne_eqb c 0 f) at turn
 
-      pub a_fault : (c ≡ 0 → ⊥) → c ≡ first_given (whole_rows_of_all its)
-      a_fault f = simp (ne_eqb c 0 f) at turn
-
-      pub faultless_on : c ≡ 0 → Faultless (k + 1)
-      faultless_on f = record { left = simp (eq-eqb c 0 f) at turn }
+    pub faultless_on : c ≡ 0 → Faultless b t
+    faultless_on f = record { size = (turn_on 72 70 (lit≤ tt) (omega arith) s t w.size x k).0; left = simp (eq-eqb c 0 f) at turn }
 
 numbered_items : (its : List (List ℕ)) → numbered (whole_rows_of_all its) ≡ true
 unfolding whole_rows_of_all whole_rows
@@ -132,22 +131,26 @@ module _ (faulty : Bool) (e : ℕ) (rs : List (List ℕ)) (m : List ℕ) where
         pub foot_last : i ≡ 0 → {c : ℕ} → c ≡ first_given (last_rows faulty m) → c ≡ code_with faulty e rs m
         foot_last j q = q ∙ sym (simp (eq-eqb i 0 j) at by_i)
 
--- the foot as code lends it
-pub foot_lent : (m : List ℕ) {n : ℕ} → n ≡ item_count m → take (34 + n * 72 + 42 - (34 + n * 72)) (drop (34 + n * 72) m) ≡ foot_of m
-foot_lent m {n} e =
-    ap (λ (i : ℕ). take i (drop (34 + n * 72) m)) (add-sub_cancel_left (34 + n * 72) 42) ∙ ap (λ (i : ℕ). take 42 (drop (34 + i * 72) m)) e
+-- the foot and its ending have 44 bytes
+pub foot_long : (m : List ℕ) → is_fedjel m ≡ true → length (foot_ended m) ≡ 44
+foot_long m e = omega (arith, (long m e).exact, length-drop (34 + item_count m * 72) m)
 
 -- plain, part by part
-module _ (m : List ℕ) where
-  pub head_not_plain : is_plain (head_of m) ≡ false → false ≡ is_plain_message m
+module _ (m : List ℕ) {h : Bool} (head : h ≡ is_plain (head_of m)) where
+  by_plain : h && (all is_plain (items_of m) && is_plain (foot_of m)) ≡ is_plain_message m
   unfolding is_plain_message
-  head_not_plain f = simp f
+  by_plain = ap (λ (b : Bool). b && (all is_plain (items_of m) && is_plain (foot_of m))) head
 
-  module _ (h : is_plain (head_of m) ≡ true) where
-    pub items_not_plain : all is_plain (items_of m) ≡ false → false ≡ is_plain_message m
-    unfolding is_plain_message
-    items_not_plain f = simp (h, f)
+  pub head_not_plain : h ≡ false → h ≡ is_plain_message m
+  head_not_plain f = f ∙ simp f at by_plain
 
-    pub foot_plain : all is_plain (items_of m) ≡ true → {r : Bool} → r ≡ is_plain (foot_of m) → r ≡ is_plain_message m
-    unfolding is_plain_message
-    foot_plain i q = q ∙ simp (h, i)
+  module _ (t : h ≡ true) {a : Bool} (its : a ≡ all is_plain (items_of m)) where
+    pub items_not_plain : a ≡ false → a ≡ is_plain_message m
+    items_not_plain f =
+        let i : all is_plain (items_of m) ≡ false = sym its ∙ f in
+        f ∙ simp (t, i) at by_plain
+
+    pub foot_plain : a ≡ true → {r : Bool} → r ≡ is_plain (foot_of m) → r ≡ is_plain_message m
+    foot_plain f q =
+        let i : all is_plain (items_of m) ≡ true = sym its ∙ f in
+        q ∙ simp (t, i) at by_plain

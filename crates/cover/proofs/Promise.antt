@@ -8,6 +8,7 @@ use mathlib.Core.Logic.{⊎_elim}
 use Prim.Native.Nat.{ℕ, ◌≤◌, ◌<◌}
 use native.Mathlib.Omega.{arith}
 use lib.Dec.{eqb}
+use Rattle.std.specs.Prelude.{Ok}
 use lib.ListN.{length, get_or, take, drop}
 use lib.Seq.{take-length}
 use borrow.Author.Tests.{eqb-true, eq-eqb}
@@ -24,7 +25,7 @@ use Rattle.answers.proofs.Right.{Right, right_id, zero_right, right_zero, code_a
 use Rattle.cover.specs.Codes.{message_code}
 use Rattle.cover.specs.Judging.{is_answered, place_of, standing_of}
 use Rattle.cover.specs.Standing.{Stands}
-use Rattle.cover.specs.declared.Standing.TheVariants as standing
+use Rattle.cover.specs.declared.Standing.{Standing}
 use Rattle.cover.proofs.Outcomes.{stood_so}
 
 module _ (e : ℕ) (l m id : List ℕ) where
@@ -107,8 +108,8 @@ module _ (e : ℕ) (l m id : List ℕ) where
       simp (f.asked, g, a)
 
   -- what `standing_to` tells is the item that stands
-  pub told_stands : {k a s : ℕ} → standing_of e l m id ≡ standing.Item k a s → Stands e l m id k
-  told_stands {k} t =
+  pub told_stands : {s : Standing} → standing_of e l m id ≡ Ok s → Stands e l m id s.place
+  told_stands {s} t =
       let w = stood_so e l m id t in
-      let p : k ≡ place_of e l m id = w.place in
+      let p : s.place ≡ place_of e l m id = w.place in
       rw p (answered_stands w.answered)

@@ -2,18 +2,22 @@
 -- Assumes nothing.
 use mathlib.Core.Path.{◌≡◌, refl, sym, ap, ◌∙◌}
 use mathlib.Core.Bool.{Bool, true, false, cond}
-use mathlib.Core.List.{List, []}
-use Prim.Native.Nat.{ℕ, ◌+◌, ◌-◌, ◌*◌, ◌^◌, ◌≤◌, ◌<◌}
+use mathlib.Core.List.{List, [], ◌∷◌}
+use Prim.Native.Nat.{ℕ, ◌+◌, ◌*◌, ◌^◌, ◌≤◌, ◌<◌, min}
 use native.Mathlib.Nat.{pow-le-pow_right, zero-add}
 use native.Mathlib.Omega.{arith}
 use lib.Dec.{leb, eqb, lit<, lit≤}
-use lib.ListN.{length, take, drop, drop_of_length-le}
+use lib.ListN.{length, take, drop, length-append}
+use denote.Ref.{Bor}
+use Rattle.std.specs.Prelude.{Some, None}
+use Rattle.std.specs.Slice.Iter.{chunks_exact_rest, chunks_exact_size, chunks_exact_steps}
+use Rattle.std.specs.declared.slice.ChunksExact.{ChunksExact}
 use borrow.Author.Tests.{leb-true, leb-false, le-leb, lt-leb, ne_eqb}
-use Rattle.base.specs.Groups.{groups}
-use Rattle.base.proofs.Groups.{group_next, length_groups}
+use Rattle.base.proofs.Chunks.{turn_on, turn_ends}
 use Rattle.digits.specs.Digits.{number_of}
 use Rattle.digits.proofs.Value.{number_lt, long}
 use Rattle.frame.specs.declared.Totals.{Totals}
+use Rattle.answers.specs.Fedjel.{items_in}
 use Rattle.cover.specs.Foot.{is_type, amount_of, count_of, sum_of}
 use Rattle.cover.specs.Sums.{limit, capped, totals_in, totals_to}
 
@@ -36,6 +40,14 @@ capped_under n h = simp (le-leb n limit h)
 pub capped_over : (n : ℕ) → limit < n → capped n ≡ limit
 unfolding capped
 capped_over n h = simp (lt-leb n limit h)
+
+pub capped_min : (n : ℕ) → min n limit ≡ capped n
+unfolding capped
+capped_min n = go (leb n limit) refl
+  where
+    go : (b : Bool) → leb n limit ≡ b → min n limit ≡ cond b n limit
+    go true e = omega (arith, leb-true n limit e)
+    go false e = omega (arith, leb-false n limit e)
 
 -- which of the two it is
 pub record Under (n : ℕ) : Type 0 where
@@ -103,43 +115,39 @@ as_counted_both v s t h = by_limit s first (λ u. (far u).0 ∙ sym (far u).1)
         (λ w. ne_eqb v (capped s + capped t) (λ e. omega (arith, e, h, w.is)) ∙ sym (ne_eqb v (s + t) (λ e. omega (arith, e, h, w.high))))
 
 -- the walk over the items: what is counted so far, with the items that are left, is the whole
-module _ (t : ℕ) (b : List ℕ) (n : ℕ) where
-  abbrev its : List (List ℕ)
-  its = groups 72 70 n b
-
-  pub record Summed (count sum k : ℕ) : Type 0 where
-    pub few : count ≤ k
+module _ (t : ℕ) (b : List ℕ) where
+  pub record Summed (count sum : ℕ) (s : ChunksExact ℕ) : Type 0 where
+    pub size : chunks_exact_size s ≡ 72
+    pub few : count * 72 + length (chunks_exact_rest s) ≤ length b
     pub small : sum ≤ limit
-    pub counted : count + count_of t (drop k its) ≡ count_of t its
-    pub summed : capped (sum + sum_of t (drop k its)) ≡ capped (sum_of t its)
+    pub counted : count + count_of t (items_in (chunks_exact_rest s)) ≡ count_of t (items_in b)
+    pub summed : capped (sum + sum_of t (items_in (chunks_exact_rest s))) ≡ capped (sum_of t (items_in b))
 
-  pub none : Summed 0 0 0
-  none =
+  pub none : {s : ChunksExact ℕ} → chunks_exact_rest s ≡ b → chunks_exact_size s ≡ 72 → Summed 0 0 s
+  none {s} r e =
       record {
-        few = omega arith;
+        size = e;
+        few = omega (arith, ap length r);
         small = lit≤ tt;
-        counted = zero-add (count_of t its);
-        summed = ap capped (zero-add (sum_of t its));
+        counted = zero-add (count_of t (items_in (chunks_exact_rest s))) ∙ ap (λ (x : List ℕ). count_of t (items_in x)) r;
+        summed = ap capped (zero-add (sum_of t (items_in (chunks_exact_rest s))) ∙ ap (λ (x : List ℕ). sum_of t (items_in x)) r);
       }
 
-  module _ {count sum k : ℕ} (w : Summed count sum k) where
-    pub all_summed : n ≤ k → {r : Totals} → r ≡ record { count = count; sum = sum } → r ≡ totals_to t its
+  module _ {count sum : ℕ} {s : ChunksExact ℕ} (w : Summed count sum s) (u : ChunksExact ℕ) where
+    pub all_summed : chunks_exact_steps s None u → {r : Totals} → r ≡ record { count = count; sum = sum } → r ≡ totals_to t (items_in b)
     unfolding totals_to
-    all_summed h e =
-        let g : length its ≤ k = omega (arith, h, length_groups 72 70 n b) in
-        let d : drop k its ≡ [] = drop_of_length-le its g in
-        let c : count + 0 ≡ count_of t its = ap (λ (x : List (List ℕ)). count + count_of t x) (sym d) ∙ w.counted in
-        let s : capped (sum + 0) ≡ capped (sum_of t its) = ap (λ (x : List (List ℕ)). capped (sum + sum_of t x)) (sym d) ∙ w.summed in
-        let c' : count ≡ count_of t its = omega (arith, c) in
+    all_summed k e =
+        let d : items_in (chunks_exact_rest s) ≡ [] = turn_ends 72 70 (lit≤ tt) (omega arith) s u w.size k in
+        let c : count + 0 ≡ count_of t (items_in b) = ap (λ (x : List (List ℕ)). count + count_of t x) (sym d) ∙ w.counted in
+        let s : capped (sum + 0) ≡ capped (sum_of t (items_in b)) = ap (λ (x : List (List ℕ)). capped (sum + sum_of t x)) (sym d) ∙ w.summed in
+        let c' : count ≡ count_of t (items_in b) = omega (arith, c) in
         let z : sum + 0 ≡ sum = omega arith in
-        let s' : sum ≡ capped (sum_of t its) = sym (capped_under sum w.small) ∙ ap capped (sym z) ∙ s in
-        e ∙ ap (λ (x : ℕ). record { count = x; sum = sum }) c' ∙ ap (λ (x : ℕ). record { count = count_of t its; sum = x }) s'
+        let s' : sum ≡ capped (sum_of t (items_in b)) = sym (capped_under sum w.small) ∙ ap capped (sym z) ∙ s in
+        e ∙ ap (λ (x : ℕ). record { count = x; sum = sum }) c' ∙ ap (λ (x : ℕ). record { count = count_of t (items_in b); sum = x }) s'
 
-    module _ (h : k < n) {r : Totals} (e : r ≡ totals_in t (take (k * 72 + 70 - k * 72) (drop (k * 72) b))) where
-      abbrev it : List ℕ
-      it = take (k * 72 + 70 - k * 72) (drop (k * 72) b)
-
-      pub one_at_most : r.count ≤ 1
+    module _ (x : Bor (List ℕ)) (k : chunks_exact_steps s (Some x) u) {it : List ℕ} (front : it ≡ take 70 x.now) {r : Totals}
+        (e : r ≡ totals_in t it) where
+      one_at_most : r.count ≤ 1
       unfolding totals_in
       one_at_most = go (is_type t it) (ap (λ (x : Totals). x.count) e)
         where
@@ -155,18 +163,27 @@ module _ (t : ℕ) (b : List ℕ) (n : ℕ) where
           go true q = omega (arith, q, number_small (take 16 (drop 51 it)))
           go false q = omega (arith, q)
 
-      pub summed_on : {s : ℕ} → s ≡ capped (sum + r.sum) → Summed (count + r.count) s (k + 1)
+      -- the items counted are no more than the bytes have
+      pub few_on : (count + r.count) * 72 + length (chunks_exact_rest u) ≤ length b
+      few_on =
+          let l : length (chunks_exact_rest s) ≡ 72 + length (chunks_exact_rest u) =
+          ap length k.1.0 ∙ length-append x.now (chunks_exact_rest u) ∙ ap (λ (i : ℕ). i + length (chunks_exact_rest u)) (k.1.1 ∙ w.size) in
+          omega (arith, l, one_at_most, w.few)
+
+      pub summed_on : {v : ℕ} → v ≡ capped (sum + r.sum) → Summed (count + r.count) v u
       unfolding totals_in
-      summed_on {s} f =
-          let next = group_next 72 70 n b k h in
-          let rest = drop (k + 1) its in
-          let c : count + (r.count + count_of t rest) ≡ count_of t its =
-          ap (λ (x : Totals). count + (x.count + count_of t rest)) e ∙ ap (λ (x : List (List ℕ)). count + count_of t x) (sym next) ∙ w.counted in
-          let m : capped (sum + (r.sum + sum_of t rest)) ≡ capped (sum_of t its) =
-          ap (λ (x : Totals). capped (sum + (x.sum + sum_of t rest))) e ∙ ap (λ (x : List (List ℕ)). capped (sum + sum_of t x)) (sym next)
+      summed_on {v} f =
+          let next = turn_on 72 70 (lit≤ tt) (omega arith) s u w.size x k in
+          let rest = items_in (chunks_exact_rest u) in
+          let its : it ∷ rest ≡ items_in (chunks_exact_rest s) = ap (λ (y : List ℕ). y ∷ rest) front ∙ sym next.1 in
+          let c : count + (r.count + count_of t rest) ≡ count_of t (items_in b) =
+          ap (λ (x : Totals). count + (x.count + count_of t rest)) e ∙ ap (λ (x : List (List ℕ)). count + count_of t x) its ∙ w.counted in
+          let m : capped (sum + (r.sum + sum_of t rest)) ≡ capped (sum_of t (items_in b)) =
+          ap (λ (x : Totals). capped (sum + (x.sum + sum_of t rest))) e ∙ ap (λ (x : List (List ℕ)). capped (sum + sum_of t x)) its
           ∙ w.summed in
           record {
-            few = omega (arith, one_at_most, w.few);
+            size = next.0;
+            few = few_on;
             small = omega (arith, f, capped_low (sum + r.sum));
             counted = omega (arith, c);
             summed = ap (λ (x : ℕ). capped (x + sum_of t rest)) f ∙ capped_on sum r.sum (sum_of t rest) ∙ m;

@@ -1,15 +1,13 @@
 -- The head of a FEDJEL (002 12.1.1; 02 #103).
 -- Assumes nothing.
-use Rattle.std.specs.Prelude.{ℕ, ◌-◌, Bool, false, not, ◌&&◌, List, [], ◌∷◌, get_or, leb, eqb}
+use Rattle.std.specs.Prelude.{ℕ, ◌-◌, Bool, false, not, ◌&&◌, List, [], ◌∷◌, get_or, leb, eqb, Ok, Err}
 use Rattle.base.specs.Bytes.{ascii, field, same}
 use Rattle.base.specs.Groups.{some}
 use Rattle.base.specs.Tables.{Row}
 use Rattle.digits.specs.Digits.{is_digits, number_of}
 use Rattle.calendar.specs.Calendar.{day_number}
 use Rattle.calendar.specs.Workdays.{weekday}
-use Rattle.calendar.specs.DateField.{date_field}
-use Rattle.calendar.specs.declared.DateField.{DateField}
-use Rattle.calendar.specs.declared.DateField.TheVariants.{Date, NotDigits, NoDate}
+use Rattle.calendar.specs.DateField.{DateField, date_field}
 use Rattle.requests.specs.Requests.{keeps}
 
 -- the field is digits, and their number is n
@@ -26,9 +24,8 @@ workday_before n = n - days_back n
 
 -- a date from the last workday before E to E (F523.2)
 unfoldable pub sent_on : ℕ → DateField → Bool
-sent_on e (Date d) = leb (workday_before (day_number e)) (day_number d) && leb (day_number d) (day_number e)
-sent_on e NotDigits = false
-sent_on e NoDate = false
+sent_on e (Ok d) = leb (workday_before (day_number e)) (day_number d) && leb (day_number d) (day_number e)
+sent_on e (Err f) = false
 
 -- the head's faults in the order of its fields
 unfoldable pub head_rows : ℕ → List (List ℕ) → List ℕ → List Row

@@ -1,13 +1,14 @@
 // The head of a FEDJEL (002 12.1.1).
-ghost use Rattle.std.specs.Prelude.{◌≡◌, cond, length};
+ghost use Rattle.std.specs.Prelude.{◌≡◌, cond};
 ghost use Rattle.base.specs.Tables.{first_given};
 ghost use Rattle.calendar.specs.DateField.{date_field};
 ghost use Rattle.requests.specs.Requests.{requests_of};
 ghost use Rattle.cover.specs.Head.{days_back, sent_on, is_number, head_rows};
 
-use calendar::DateField;
+use crate::fedjel::HEAD;
 
 // The code where the test fails, else the other.
+// Kept: (a) here and in each `_code`, a number for none: 0 is the standard's own code of a message without a fault, and what `first_given` says.
 pub(crate) fn unless(ok: bool, code: u8, other: u8) -> u8
     ensures { result ≡ cond ok other code }
 {
@@ -28,14 +29,11 @@ pub(crate) fn is_number(s: &[u8], n: u64) -> bool
 fn days_back(n: u32) -> u32
     ensures { result ≡ days_back n }
 {
-    let w = n % 7;
-    if w == 1 {
-        return 3;
+    match n % 7 {
+        0 => 2,
+        1 => 3,
+        _ => 1,
     }
-    if w == 0 {
-        return 2;
-    }
-    1
 }
 
 // Whether the field is a date from the last workday before E to E (F523.2).
@@ -43,9 +41,8 @@ fn is_sent(day: u32, s: &[u8]) -> bool
     ensures { result ≡ sent_on day (date_field s.now) }
 {
     match calendar::read_date(s) {
-        DateField::NotDigits => false,
-        DateField::NoDate => false,
-        DateField::Date(d) => {
+        Err(_) => false,
+        Ok(d) => {
             let e = calendar::day_number(day);
             let n = calendar::day_number(d);
             if n > e {
@@ -57,8 +54,7 @@ fn is_sent(day: u32, s: &[u8]) -> bool
 }
 
 // The code of the head's first fault, 0 if it has none.
-pub(crate) fn head_code(h: &[u8], day: u32, list: &[u8]) -> u8
-    requires { length h.now ≡ 32 }
+pub(crate) fn head_code(h: &[u8; HEAD], day: u32, list: &[u8]) -> u8
     ensures { result ≡ first_given (head_rows day (requests_of list.now) h.now) }
 {
     let c = unless(is_number(&h[24..32], day as u64), 7, 0);

@@ -2,92 +2,79 @@
 // 002 sections 12.1 to 12.4).
 #![tactic(auto)]
 
-ghost use Rattle.std.specs.Prelude.{◌≡◌};
+ghost use Rattle.std.specs.Prelude.{◌≡◌, MatchResult, Ok, Err};
 ghost use Rattle.cover.specs.Judging.{lent_refused, JudgedAs, standing_of};
 
-use answers::{HEAD_ENDED, ITEM_ENDED};
-use lent::{Outcome, Refusal};
+use crate::fedjel::Fedjel;
+use answers::ITEM_ENDED;
+use lent::Refusal;
 use requests::REQUEST;
 
 mod codes;
+mod fedjel;
 mod foot;
 mod head;
 
-// What judging gives: the message code and the number of items, or why there is none.
+// What judging gives: the message code and the number of items.
 #[derive(Clone, Copy)]
-pub enum Answer {
-    Judged { code: u8, items: usize },
-    Refused(Refusal),
+pub struct Judged {
+    pub code: u8,
+    pub items: usize,
 }
 
-// The standing answer to a request, or why there is none: the item's place, counted from 0, its answer and the request's sum.
+// The standing answer to a request: the item's place, counted from 0, its answer and the request's sum.
 #[derive(Clone, Copy)]
-pub enum Standing {
-    Item { place: usize, answer: u8, sum: u64 },
-    Refused(Refusal),
+pub struct Standing {
+    pub place: usize,
+    pub answer: u8,
+    pub sum: u64,
 }
 
-// What is lent and given is refused: 1, 11, 12.
-fn refused(day: u32, list: &[u8], message: &[u8]) -> Outcome
-    ensures { result ≡ lent_refused day list.now message.now }
+// The message as a FEDJEL, unless what is lent or given is refused: 1, 11, 12.
+#[tactic(auto, unfolding(crate::specs::Judging::lent_refused))]
+fn taken<'a>(day: u32, list: &[u8], message: &'a [u8]) -> Result<Fedjel<'a>, Refusal>
+    ensures { MatchResult result
+        (λ f. (f.message.now ≡ message.now) × (lent_refused day list.now message.now ≡ Ok tt))
+        (λ r. lent_refused day list.now message.now ≡ Err r) }
 {
     if !calendar::is_date(day) {
-        return Outcome::Refused(Refusal::NotADay);
+        return Err(Refusal::NotADay);
     }
     if !requests::is_request_list(list) {
-        return Outcome::Refused(Refusal::RequestList);
+        return Err(Refusal::RequestList);
     }
-    if !answers::is_fedjel(message) {
-        return Outcome::Refused(Refusal::Fedjel);
-    }
-    Outcome::Done
+    Fedjel::of(message).ok_or(Refusal::Fedjel)
 }
 
 // A FEDJEL is judged: refusals 1, 11, 12, 9. The k-th item's code goes to byte k of the table; a refusal alters nothing.
-pub fn judge(day: u32, list: &[u8], message: &[u8], table: &mut [u8]) -> Answer
+pub fn judge(day: u32, list: &[u8], message: &[u8], table: &mut [u8]) -> Result<Judged, Refusal>
     ensures { JudgedAs day list.now message.now table.old result table.new }
 {
-    match refused(day, list, message) {
-        Outcome::Refused(r) => Answer::Refused(r),
-        Outcome::Done => {
-            let n = answers::count(message);
-            if table.len() < n {
-                return Answer::Refused(Refusal::Room);
-            }
-            let faulty = answers::put_codes(message, list, table);
-            Answer::Judged {
-                code: codes::code_with(day, list, message, faulty),
-                items: n,
-            }
-        }
+    let f = taken(day, list, message)?;
+    let items = answers::count(message);
+    if table.len() < items {
+        return Err(Refusal::Room);
     }
+    let faulty = answers::put_codes(message, list, table);
+    let code = codes::code_with(day, list, &f, faulty);
+    Ok(Judged { code, items })
 }
 
 // The standing answer to the request with an identifier: refusals 1, 11, 12, 13. The first item that answers the request rightly stands,
 // where the message code is 00.
-pub fn standing_to(day: u32, list: &[u8], message: &[u8], id: &[u8]) -> Standing
+pub fn standing_to(day: u32, list: &[u8], message: &[u8], id: &[u8]) -> Result<Standing, Refusal>
     ensures { result ≡ standing_of day list.now message.now id.now }
 {
-    match refused(day, list, message) {
-        Outcome::Refused(r) => Standing::Refused(r),
-        Outcome::Done => {
-            let j = requests::find(list, id);
-            if j >= list.len() / REQUEST {
-                return Standing::Refused(Refusal::Standing);
-            }
-            if !codes::is_good(day, list, message) {
-                return Standing::Refused(Refusal::Standing);
-            }
-            let from = j * REQUEST;
-            let k = answers::answer_to(message, &list[from..from + REQUEST]);
-            if k >= answers::count(message) {
-                return Standing::Refused(Refusal::Standing);
-            }
-            Standing::Item {
-                place: k,
-                answer: message[HEAD_ENDED + k * ITEM_ENDED + 67],
-                sum: digits::number(&list[from + 49..from + REQUEST]),
-            }
-        }
+    let f = taken(day, list, message)?;
+    let j = requests::find(list, id).ok_or(Refusal::Standing)?;
+    let request = &list.as_chunks::<REQUEST>().0[j];
+    if !codes::is_good(day, list, &f) {
+        return Err(Refusal::Standing);
     }
+    let place = answers::answer_to(message, request).ok_or(Refusal::Standing)?;
+    Ok(Standing {
+        place,
+        answer: f.items().as_chunks::<ITEM_ENDED>().0[place][67],
+        sum: digits::number(&request[49..]),
+    })
 }

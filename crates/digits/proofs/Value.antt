@@ -46,9 +46,6 @@ pub record Read (s : List ℕ) (n i : ℕ) : Type 0 where
   pub total : n * 10 ^ length (drop i s) + value (drop i s) ≡ value s
   pub right : is_digits (drop i s) ≡ is_digits s
 
-pub start : (s : List ℕ) → length s ≤ 16 → Read s 0 0
-start s h = record { short = h; small = lit< tt; total = omega arith; right = refl }
-
 pub long : (s : List ℕ) → 16 < length s → 0 ≡ number_of s
 unfolding number_of
 long s h = simp (lt-leb (length s) 16 h)

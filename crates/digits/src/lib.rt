@@ -26,10 +26,8 @@ pub fn is_digits(s: &[u8]) -> bool
     ensures { result ≡ is_digits s.now }
 {
     let mut ok = true;
-    let mut i = 0;
-    while i < s.len() {
-        ok = ok & is_digit(s[i]);
-        i += 1;
+    for b in s {
+        ok &= is_digit(*b);
     }
     ok
 }
@@ -42,14 +40,11 @@ pub fn number(s: &[u8]) -> u64
         return 0;
     }
     let mut n: u64 = 0;
-    let mut i = 0;
-    while i < s.len() {
-        let b = s[i];
-        if !is_digit(b) {
+    for b in s {
+        if !is_digit(*b) {
             return 0;
         }
-        n = n * 10 + (b - b'0') as u64;
-        i += 1;
+        n = n * 10 + (*b - b'0') as u64;
     }
     n
 }
@@ -59,13 +54,11 @@ fn fits(n: u64, w: usize) -> bool
     ensures { result ≡ ltb n (10 ^ w) }
 {
     let mut left = n;
-    let mut i = 0;
-    while i < w {
+    for _ in 0..w {
         if left == 0 {
             return true;
         }
-        left = left / 10;
-        i += 1;
+        left /= 10;
     }
     left == 0
 }
@@ -76,16 +69,15 @@ fn put_figures(out: &mut [u8], w: usize, n: u64)
     ensures { out.new ≡ over out.old 0 (figures w n) }
 {
     let mut left = n;
-    let mut i = w;
-    while i > 0 {
-        i -= 1;
+    for i in (0..w).rev() {
         out[i] = b'0' + (left % 10) as u8;
-        left = left / 10;
+        left /= 10;
     }
 }
 
 // The number with leading zeros in the first w bytes of what is lent. Where it has more digits or the part is
 // shorter, the answer is false and nothing is written.
+#[tactic(auto, unfolding(crate::specs::Digits::with_number))]
 pub fn put_number(out: &mut [u8], w: usize, n: u64) -> bool
     ensures answer { result ≡ has_room out.old w n }
     ensures bytes { out.new ≡ with_number out.old w n }
@@ -100,8 +92,10 @@ pub fn put_number(out: &mut [u8], w: usize, n: u64) -> bool
     true
 }
 
+// Kept: a place, and no Option: what may not change is that it can't fail (`after_number`); each writer goes on from the place, where it is right.
 // The number with leading zeros in w bytes at a place of what is lent, and the place after it. Where it has more digits or the
 // bytes aren't there, the answer is the place itself and nothing is written.
+#[tactic(auto, unfolding(crate::specs::Digits::with_number, crate::specs::Digits::with_number_at, crate::specs::Digits::after_number))]
 pub fn put_at(out: &mut [u8], at: usize, w: usize, n: u64) -> usize
     ensures place { result ≡ after_number out.old at w n }
     ensures bytes { out.new ≡ with_number_at out.old at w n }

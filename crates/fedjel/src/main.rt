@@ -10,7 +10,8 @@ ghost use Rattle.answers.specs.Answers.{answer_of};
 use answers::{HEAD_ENDED, ITEM_ENDED};
 use console::fedjel::{ITEMS, LONGEST, MESSAGE, REQUESTS};
 use console::{put, read_file, read_full, refuse};
-use cover::Answer;
+use cover::Judged;
+use lent::Refusal;
 
 // The message code and the number of items.
 fn put_verdict(rt: &impl Print, code: u8, items: usize) {
@@ -38,26 +39,29 @@ fn answer_of(message: &[u8], k: usize) -> u8
 fn put_items(rt: &impl Print, code: u8, message: &[u8], codes: &[u8])
     requires { length codes.now ≡ item_count message.now }
 {
-    let mut k = 0;
-    while k < codes.len() {
-        put_item(rt, code, k + 1, codes[k], answer_of(message, k));
-        k += 1;
+    for (k, own) in codes.iter().enumerate() {
+        put_item(rt, code, k + 1, *own, answer_of(message, k));
     }
 }
 
-// The message is judged, and what is found of it printed.
+// The message is judged on a day, and what is found of it printed.
 fn judged(rt: &impl Print, day: u32, requests: &[u8], message: &[u8], table: &mut [u8]) {
     match cover::judge(day, requests, message, table) {
-        Answer::Refused(r) => refuse(rt, r),
-        Answer::Judged { code, items } => {
+        Ok(Judged { code, items }) => {
             put_verdict(rt, code, items);
             put_items(rt, code, message, &table[..items])
         }
+        Err(r) => refuse(rt, r),
     }
 }
 
 // The requests and the message are read; a longer message than is held isn't judged.
-fn answer(rt: &HostRuntime, requests: &mut [u8], message: &mut [u8], table: &mut [u8]) {
+fn answer(
+    rt: &HostRuntime,
+    requests: &mut [u8; REQUESTS],
+    message: &mut [u8; MESSAGE],
+    table: &mut [u8; ITEMS],
+) {
     let day = console::fedjel::day(rt);
     let r = read_file(rt, "requests", requests);
     let n = read_full(&mut rt.stdin(), message);
@@ -65,22 +69,15 @@ fn answer(rt: &HostRuntime, requests: &mut [u8], message: &mut [u8], table: &mut
         console::fedjel::too_long(rt, b"fedjel");
         return;
     }
-    judged(rt, day, &requests[..r], &message[..n], table);
-}
-
-// In the memory that is lent.
-fn answer_in(
-    rt: &HostRuntime,
-    requests: &mut [u8; REQUESTS],
-    message: &mut [u8; MESSAGE],
-    table: &mut [u8; ITEMS],
-) {
-    answer(rt, requests, message, table);
+    match day {
+        Some(day) => judged(rt, day, &requests[..r], &message[..n], table),
+        None => refuse(rt, Refusal::NotADay),
+    }
 }
 
 fn main(rt: HostRuntime) {
     let mut requests = [0u8; REQUESTS];
     let mut message = [0u8; MESSAGE];
     let mut table = [0u8; ITEMS];
-    answer_in(&rt, &mut requests, &mut message, &mut table);
+    answer(&rt, &mut requests, &mut message, &mut table);
 }

@@ -4,13 +4,10 @@
 #![tactic(auto)]
 
 use console::fedjel::{LONGEST, MESSAGE, REQUESTS};
-use console::{
-    Argument, argument_count, number_of, put, read_argument, read_file, read_full, refuse, say,
-};
-use lent::Outcome;
+use console::{argument_count, number_of, put, read_argument, read_file, read_full, refuse, say};
+use lent::Refusal;
 use status::fedsta;
 use status::reply::Particulars;
-use text::is_same;
 
 // What is asked for: which request, whether the bank has cover, the particulars, and how many items of the order were accepted.
 #[derive(Clone, Copy)]
@@ -21,122 +18,109 @@ struct Wanted {
     count: u32,
 }
 
-// The FEDSTA is written, or refused.
-fn answered(rt: &HostRuntime, w: Wanted, day: u32, requests: &[u8], message: &[u8]) {
-    let mut out = [0u8; fedsta::BYTES];
-    let id = w.id;
-    let p = w.particulars;
-    match fedsta::write(day, requests, message, id, w.cover, p, w.count, &mut out) {
-        Outcome::Refused(r) => refuse(&rt.stderr(), r),
-        Outcome::Done => put(rt, &out),
+impl Wanted {
+    // The FEDSTA for a day, where there is one.
+    fn written(
+        self,
+        day: Option<u32>,
+        requests: &[u8],
+        message: &[u8],
+        out: &mut [u8; fedsta::BYTES],
+    ) -> Result<(), Refusal> {
+        fedsta::write(
+            day.ok_or(Refusal::NotADay)?,
+            requests,
+            message,
+            self.id,
+            self.cover,
+            self.particulars,
+            self.count,
+            out,
+        )
+    }
+
+    // The FEDSTA is written, or refused.
+    fn answered(self, rt: &HostRuntime, day: Option<u32>, requests: &[u8], message: &[u8]) {
+        let mut out = [0u8; fedsta::BYTES];
+        match self.written(day, requests, message, &mut out) {
+            Ok(()) => put(rt, &out),
+            Err(r) => refuse(&rt.stderr(), r),
+        }
+    }
+
+    // The requests and the message are read; a longer message than is held isn't judged.
+    fn answer(self, rt: &HostRuntime, requests: &mut [u8; REQUESTS], message: &mut [u8; MESSAGE]) {
+        let day = console::fedjel::day(rt);
+        let r = read_file(rt, "requests", requests);
+        let n = read_full(&mut rt.stdin(), message);
+        if n > LONGEST {
+            console::fedjel::too_long(rt, b"fedsta");
+            return;
+        }
+        self.answered(rt, day, &requests[..r], &message[..n]);
+    }
+
+    // In memory of its own.
+    fn judged(self, rt: &HostRuntime) {
+        let mut requests = [0u8; REQUESTS];
+        let mut message = [0u8; MESSAGE];
+        self.answer(rt, &mut requests, &mut message);
     }
 }
 
-// The requests and the message are read; a longer message than is held isn't judged.
-fn answer(rt: &HostRuntime, w: Wanted, requests: &mut [u8], message: &mut [u8]) {
-    let day = console::fedjel::day(rt);
-    let r = read_file(rt, "requests", requests);
-    let n = read_full(&mut rt.stdin(), message);
-    if n > LONGEST {
-        console::fedjel::too_long(rt, b"fedsta");
-        return;
-    }
-    answered(rt, w, day, &requests[..r], &message[..n]);
+// The arguments, as text.
+#[derive(Clone, Copy)]
+struct Words<'a> {
+    id: &'a [u8],
+    cover: &'a [u8],
+    duplicate: &'a [u8],
+    number: &'a [u8],
+    time: &'a [u8],
+    count: &'a [u8],
 }
 
-// In the memory that is lent.
-fn answer_in(
-    rt: &HostRuntime,
-    w: Wanted,
-    requests: &mut [u8; REQUESTS],
-    message: &mut [u8; MESSAGE],
-) {
-    answer(rt, w, requests, message);
-}
-
-// The memory of an answer.
-fn held(rt: &HostRuntime, w: Wanted) {
-    let mut requests = [0u8; REQUESTS];
-    let mut message = [0u8; MESSAGE];
-    answer_in(rt, w, &mut requests, &mut message);
-}
-
-// What is wrong with an argument, and how the program is called.
-fn wrong(rt: &HostRuntime, said: &[u8]) {
-    say(rt, b"fedsta: ");
-    say(rt, said);
-    say(
-        rt,
-        b". Usage: fedsta IDENTIFIER COVER DUPLICATE NUMBER TIME COUNT\n",
-    );
-}
-
-// The request and the cover are known; the particulars and the count, as text. What they say is judged with the message (refusal 8).
-fn stated(
-    rt: &HostRuntime,
-    id: [u8; 25],
-    cover: bool,
-    duplicate: &[u8],
-    number: &[u8],
-    time: &[u8],
-    count: &[u8],
-) {
-    if duplicate.len() != 1 {
-        wrong(rt, b"DUPLICATE is one character, 0 or @");
-        return;
-    }
-    let Argument::Number(n) = number_of(number, 1, 4) else {
-        wrong(rt, b"NUMBER is one to four digits");
-        return;
-    };
-    let Argument::Number(t) = number_of(time, 6, 6) else {
-        wrong(rt, b"TIME is six digits, hhmmss");
-        return;
-    };
-    let Argument::Number(c) = number_of(count, 1, 6) else {
-        wrong(
-            rt,
-            b"COUNT is one to six digits, the accepted items of the order",
-        );
-        return;
-    };
-    held(
-        rt,
-        Wanted {
+impl Words<'_> {
+    // What they ask for, or what is wrong with one: 25 characters; yes or no; the particulars and the count, which are judged with the
+    // message (refusal 8).
+    fn wanted(self) -> Result<Wanted, &'static str> {
+        let Ok(id) = <[u8; 25]>::try_from(self.id) else {
+            return Err("IDENTIFIER is the 25 characters of a request");
+        };
+        let cover = match self.cover {
+            b"yes" => true,
+            b"no" => false,
+            _ => return Err("COVER is yes or no"),
+        };
+        let [duplicate] = self.duplicate else {
+            return Err("DUPLICATE is one character, 0 or @");
+        };
+        let particulars = Particulars {
+            duplicate: *duplicate,
+            number: number_of(self.number, 1, 4).ok_or("NUMBER is one to four digits")?,
+            time: number_of(self.time, 6, 6).ok_or("TIME is six digits, hhmmss")?,
+        };
+        let count = number_of(self.count, 1, 6).ok_or(
+            "COUNT is one to six digits, the accepted items of the order",
+        )?;
+        Ok(Wanted {
             id,
             cover,
-            particulars: Particulars {
-                duplicate: duplicate[0],
-                number: n,
-                time: t,
-            },
-            count: c,
-        },
-    );
-}
+            particulars,
+            count,
+        })
+    }
 
-// The arguments, as text: 25 characters; yes or no; and the rest.
-fn asked(
-    rt: &HostRuntime,
-    id: &[u8],
-    cover: &[u8],
-    duplicate: &[u8],
-    number: &[u8],
-    time: &[u8],
-    count: &[u8],
-) {
-    if id.len() != 25 {
-        wrong(rt, b"IDENTIFIER is the 25 characters of a request");
-        return;
+    // It is judged; or what is wrong is said.
+    fn asked(self, rt: &HostRuntime) {
+        match self.wanted() {
+            Ok(wanted) => wanted.judged(rt),
+            Err(wrong) => {
+                let _ = eprintln!(rt;
+                    "fedsta: {wrong}. Usage: fedsta IDENTIFIER COVER DUPLICATE NUMBER TIME COUNT"
+                );
+            }
+        }
     }
-    let yes = is_same(cover, b"yes");
-    if !(yes | is_same(cover, b"no")) {
-        wrong(rt, b"COVER is yes or no");
-        return;
-    }
-    let mut request = [0u8; 25];
-    text::put_at(&mut request, 0, id);
-    stated(rt, request, yes, duplicate, number, time, count);
 }
 
 fn main(rt: HostRuntime) {
@@ -164,13 +148,13 @@ fn main(rt: HostRuntime) {
     let n = read_argument(&rt, 4, &mut number);
     let t = read_argument(&rt, 5, &mut time);
     let c = read_argument(&rt, 6, &mut count);
-    asked(
-        &rt,
-        &id[..i],
-        &cover[..v],
-        &duplicate[..d],
-        &number[..n],
-        &time[..t],
-        &count[..c],
-    );
+    let words = Words {
+        id: &id[..i],
+        cover: &cover[..v],
+        duplicate: &duplicate[..d],
+        number: &number[..n],
+        time: &time[..t],
+        count: &count[..c],
+    };
+    words.asked(&rt);
 }

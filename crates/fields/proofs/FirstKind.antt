@@ -10,9 +10,7 @@ use Rattle.base.proofs.Tables.{ByRows}
 use Rattle.digits.specs.Digits.{number_of}
 use Rattle.findings.specs.declared.Kind.{Kind}
 use Rattle.findings.specs.declared.Kind.TheVariants.{NotDigits, BlankOrZero, OutOfOrder}
-use Rattle.findings.specs.declared.Finding.{Finding}
-use Rattle.findings.specs.declared.Finding.TheVariants.{Right}
-use Rattle.findings.specs.Findings.{unless, kind_number, finding_number}
+use Rattle.findings.specs.Findings.{Finding, Right, unless, kind_number, finding_number}
 use Rattle.fields.specs.Fields.{digits_of, place_found, amount_found}
 
 -- nothing is wrong

@@ -7,10 +7,8 @@ use Rattle.text.specs.Text.{is_text, is_blank, is_blank_or_zero}
 use Rattle.digits.specs.Digits.{digit, is_digits, number_of}
 use Rattle.lists.specs.Known.{is_known}
 use Rattle.purposes.specs.Purposes.{is_purpose}
-use Rattle.findings.specs.declared.Finding.{Finding}
-use Rattle.findings.specs.declared.Finding.TheVariants.{Right}
 use Rattle.findings.specs.declared.Kind.TheVariants.{Letter, Mark, NotDigits, NotListed, Known, BlankOrZero, OutOfOrder}
-use Rattle.findings.specs.Findings.{unless}
+use Rattle.findings.specs.Findings.{Finding, Right, unless}
 use Rattle.fields.specs.declared.Amount.{Amount}
 
 -- n digits

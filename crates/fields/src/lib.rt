@@ -14,9 +14,10 @@ ghost use Rattle.fields.specs.Fields.{
   total_code,
 };
 
-use findings::{Finding, Kind};
+use findings::{Finding, Kind, found};
 
 // An amount's number, and what is found in its field.
+// Kept: the number stands beside what is found, since what may not change is that `amount_found` gives the number of a field of another length too.
 #[derive(Clone, Copy)]
 pub struct Amount {
     pub value: u64,
@@ -24,23 +25,18 @@ pub struct Amount {
 }
 
 // The type of a record: '0' and its last byte.
+#[tactic(auto, using(crate::proofs::Byte::two))]
 pub fn type_found(s: &[u8], last: u8) -> Finding
     ensures { result ≡ mark_found (48 ∷ last ∷ []) s.now }
 {
-    if s.len() != 2 {
-        return Finding::Fault(Kind::Mark);
-    }
-    if s[0] != b'0' {
-        return Finding::Fault(Kind::Mark);
-    }
-    if s[1] == last {
-        Finding::Right
-    } else {
-        Finding::Fault(Kind::Mark)
-    }
+    found(
+        (s.len() == 2) && (s[0] == b'0') && (s[1] == last),
+        Kind::Mark,
+    )
 }
 
 // The duplicate code of a STATUS: 0 or @.
+#[tactic(auto, unfolding(crate::specs::Fields::is_duplicate))]
 pub fn is_duplicate(b: u8) -> bool
     ensures { result ≡ is_duplicate b }
 {
@@ -48,6 +44,7 @@ pub fn is_duplicate(b: u8) -> bool
 }
 
 // Whether a field whose number is v has n digits. A number above 0 shows that they are digits, so the bytes are most often not read again.
+#[tactic(auto, using(crate::proofs::Numbers::above_zero))]
 fn is_number(s: &[u8], n: usize, v: u64) -> bool
     requires { v ≡ number_of s.now }
     ensures { result ≡ digits_of n s.now }
@@ -62,33 +59,27 @@ fn is_number(s: &[u8], n: usize, v: u64) -> bool
 }
 
 // An item's number: six digits, and its place k (01, Item rules).
+#[tactic(auto, unfolding(crate::specs::Fields::place_found))]
 pub fn place_found(s: &[u8], k: u64) -> Finding
     ensures { result ≡ place_found k s.now }
 {
     let v = digits::number(s);
     if !is_number(s, 6, v) {
-        return Finding::Fault(Kind::NotDigits);
+        return Err(Kind::NotDigits);
     }
-    if v == k {
-        Finding::Right
-    } else {
-        Finding::Fault(Kind::OutOfOrder)
-    }
+    found(v == k, Kind::OutOfOrder)
 }
 
 // An amount whose number is v: ten digits, not all zero (01, Item rules).
+#[tactic(auto, unfolding(crate::specs::Fields::amount_found))]
 fn amount_of(s: &[u8], v: u64) -> Finding
     requires { v ≡ number_of s.now }
     ensures { result ≡ amount_found s.now }
 {
     if !is_number(s, 10, v) {
-        return Finding::Fault(Kind::NotDigits);
+        return Err(Kind::NotDigits);
     }
-    if v == 0 {
-        Finding::Fault(Kind::BlankOrZero)
-    } else {
-        Finding::Right
-    }
+    found(v != 0, Kind::BlankOrZero)
 }
 
 // An amount, read once: its number, 0 where it isn't digits, and what is found in it.

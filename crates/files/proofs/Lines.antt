@@ -4,12 +4,13 @@ use mathlib.Core.Path.{◌≡◌, refl, sym, ap, ◌∙◌}
 use mathlib.Core.Bool.{Bool, true, false, ◌&&◌, and-true}
 use mathlib.Core.List.{List, [], ◌∷◌, ◌++◌}
 use Prim.Native.Nat.{ℕ, zero, suc, ◌+◌, ◌-◌, ◌*◌, ◌/◌, ◌^◌, ◌<◌, ◌≤◌}
-use native.Mathlib.Nat.{add-sub_cancel_left, sub-zero, pow-le-pow_right}
+use native.Mathlib.Nat.{add-sub_cancel_left, pow-le-pow_right}
 use native.Mathlib.Numerals.{add-one}
 use native.Mathlib.Omega.{arith}
 use lib.Dec.{leb, lit<}
-use lib.ListN.{length, take, drop, set, length-take}
-use lib.Seq.{drop-drop}
+use lib.ListN.{length, take, drop, set, length-take, length-append}
+use lib.Seq.{drop-drop, take_at, drop_at}
+use Rattle.std.proofs.lemmas.List.{take-append-le}
 use borrow.Author.Tests.{le-leb, lt-leb}
 use Rattle.base.specs.Bytes.{every, over}
 use Rattle.base.proofs.Over.{length_over, over_none, over_set}
@@ -65,45 +66,37 @@ eight (suc n) s =
 whole : (n : ℕ) (s : List ℕ) → rises 0 n s ≡ are_lines n s && is_bank_list (numbers_of n s)
 whole n s = simp (apart 0 n s, from_none, eight n s, and-true)
 
--- the lines that are left after k of them decide as all do
-pub record Walked (s : List ℕ) (least k : ℕ) : Type 0 where
-  pub left : rises least (length s / 9 - k) (drop (k * 9) s) ≡ ordered s
+-- the lines that are left decide as all do
+pub record Walked (s rest : List ℕ) (least : ℕ) : Type 0 where
+  pub left : rises least (length rest / 9) rest ≡ ordered s
 
-pub start : (s : List ℕ) → Walked s 0 0
-start s = record { left = simp sub-zero (whole (length s / 9) s) }
+pub start : (s : List ℕ) → Walked s s 0
+start s = record { left = whole (length s / 9) s }
 
-module _ {s : List ℕ} {least k : ℕ} (w : Walked s least k) where
-  pub ends : length s / 9 ≤ k → true ≡ ordered s
-  ends h =
-      let z : length s / 9 - k ≡ 0 = omega arith in
-      simp z at w.left
+pub ends : {s rest : List ℕ} {least : ℕ} → Walked s rest least → length rest < 9 → true ≡ ordered s
+ends {s} {rest} {least} w h =
+    let z : length rest / 9 ≡ 0 = omega arith in
+    simp z at w.left
 
-  module _ (h : k < length s / 9) (r : Bool) (e : r ≡ is_line (take (k * 9 + 9 - k * 9) (drop (k * 9) s))) where
-    turn :
-        r && (leb least (number_of (take 8 (drop (k * 9) s))) && rises (number_of (take 8 (drop (k * 9) s)) + 1) (length s / 9 - (k + 1)) (drop (k * 9 + 9) s))
-        ≡ ordered s
-    turn =
-        let z : length s / 9 - k ≡ suc (length s / 9 - (k + 1)) = omega arith in
-        let y : k * 9 + 9 - k * 9 ≡ 9 = add-sub_cancel_left (k * 9) 9 in
-        simp (e, y) (simp (z, drop-drop) at w.left)
+-- a line and what follows it
+module _ {s rest : List ℕ} {least : ℕ} (w : Walked s rest least) (line after : List ℕ) (e : rest ≡ line ++ after) (h : length line ≡ 9) where
+  turn : is_line line && (leb least (number_of (take 8 line)) && rises (number_of (take 8 line) + 1) (length after / 9) after) ≡ ordered s
+  turn =
+      let z : length (line ++ after) / 9 ≡ suc (length after / 9) = omega (arith, length-append line after) in
+      let n : take 9 (line ++ after) ≡ line = take_at line after 9 h in
+      let d : drop 9 (line ++ after) ≡ after = drop_at line after 9 h in
+      let k : take 8 (line ++ after) ≡ take 8 line = take-append-le 8 line after (omega arith) in
+      simp (e, z, n, d, k) at w.left
 
-    pub no_line : r ≡ false → false ≡ ordered s
-    no_line f = simp f at turn
+  pub no_line : (r : Bool) → r ≡ is_line line → r ≡ false → false ≡ ordered s
+  no_line r i f = simp (← i, f) at turn
 
-    module _ (f : r ≡ true) (x : ℕ) (g : x ≡ number_of (take (k * 9 + 8 - k * 9) (drop (k * 9) s))) where
-      is_eight : x ≡ number_of (take 8 (drop (k * 9) s))
-      is_eight = let y : k * 9 + 8 - k * 9 ≡ 8 = add-sub_cancel_left (k * 9) 8 in simp y at g
+  module _ (r : Bool) (i : r ≡ is_line line) (f : r ≡ true) (x : ℕ) (g : x ≡ number_of (take 8 line)) where
+    pub not_above : x < least → false ≡ ordered s
+    not_above j = simp (← i, f, ← g, lt-leb least x j) at turn
 
-      pub low : x < 100000000
-      low = omega (arith, is_eight, small (drop (k * 9) s))
-
-      pub not_above : x < least → false ≡ ordered s
-      not_above j = simp (f, ← is_eight, lt-leb least x j) at turn
-
-      pub on : least ≤ x → Walked s (x + 1) (k + 1)
-      on j =
-          let z : (k + 1) * 9 ≡ k * 9 + 9 = omega arith in
-          record { left = simp z (simp (f, ← is_eight, le-leb least x j) at turn) }
+    pub on : least ≤ x → Walked s after (x + 1)
+    on j = record { left = simp (← i, f, ← g, le-leb least x j) at turn }
 
 -- the numbers of k lines are k
 pub count : (k : ℕ) (s : List ℕ) → length (numbers_of k s) ≡ k

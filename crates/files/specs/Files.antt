@@ -1,30 +1,28 @@
 -- The files that the clearing day and the lists come from: `day`, `banks` and `known` (01, Examples, the slip program).
 -- Assumes nothing.
-use Rattle.std.specs.Prelude.{ℕ, zero, suc, ◌/◌, ◌%◌, ◌≡◌, Bool, true, cond, ◌&&◌, List, [], ◌∷◌, length, get_or, take, drop, leb, eqb}
+use Rattle.std.specs.Prelude.{ℕ, zero, suc, ◌/◌, ◌%◌, ◌≡◌, Bool, true, false, ◌&&◌, List, [], ◌∷◌, length, get_or, take, drop, leb, eqb}
+use Rattle.std.specs.Prelude.{Option, Some, None, Result, Ok, Err}
 use Rattle.base.specs.Bytes.{over}
 use Rattle.digits.specs.Digits.{is_digits, number_of}
-use Rattle.calendar.specs.DateField.{date_field}
-use Rattle.calendar.specs.declared.DateField.{DateField}
-use Rattle.calendar.specs.declared.DateField.TheVariants.{Date, NotDigits, NoDate}
+use Rattle.calendar.specs.DateField.{DateField, date_field}
 use Rattle.lists.specs.Banks.{is_bank_list}
 use Rattle.lists.specs.Known.{is_known_list}
 use Rattle.lent.specs.Lent.{refusal_number}
+use Rattle.lent.specs.declared.Refusal.{Refusal}
 use Rattle.lent.specs.declared.Refusal.TheVariants as refusal
 use Rattle.files.specs.declared.Given.{Given}
-use Rattle.files.specs.declared.Given.TheVariants.{Files, Refused}
 
 -- a file has at most so many bytes
 abbrev pub longest : ℕ
 longest = 25000
 
--- the date that was read, 0 for none
-abbrev pub date_in : DateField → ℕ
-date_in (Date n) = n
-date_in NotDigits = 0
-date_in NoDate = 0
+-- the date that was read, where one was
+abbrev pub date_in : DateField → Option ℕ
+date_in (Ok n) = Some n
+date_in (Err f) = None
 
--- `day`: the date that eight digits say, 0 where the file says none
-unfoldable pub day_of : List ℕ → ℕ
+-- `day`: the date that eight digits say, where the file says one
+unfoldable pub day_of : List ℕ → Option ℕ
 day_of s = date_in (date_field s)
 
 -- nine bytes are a line of `banks`: eight digits and 0Ah
@@ -58,26 +56,30 @@ abbrev pub is_known_file : List ℕ → Bool
 is_known_file s = leb (length s) longest && is_known_list s
 
 -- the number of what the files give: 0, or the refusal's
-abbrev pub given_number : Given → ℕ
-given_number (Files day n) = 0
-given_number (Refused r) = refusal_number r
+abbrev pub given_number : Result Given Refusal → ℕ
+given_number (Ok g) = 0
+given_number (Err r) = refusal_number r
 
--- the day and how many banks there are; or refusal 1, 2 or 3, in this order
-unfoldable pub given_by : List ℕ → List ℕ → List ℕ → ℕ → Given
-given_by day banks known room =
-    cond (eqb (day_of day) 0)
-    (Refused refusal.NotADay)
-    (cond (is_banks banks room)
-    (cond (is_known_file known)
-    (Files (day_of day) (length banks / 9))
-    (Refused refusal.KnownList))
-    (Refused refusal.BankList))
+-- what the files say where they pass
+abbrev pub given : ℕ → ℕ → Given
+given day banks = record { day = day; banks = banks }
+
+-- the day, if there is one, and how many banks there are, where `banks` and `known` pass their tests; or refusal 1, 2 or 3, in this order
+abbrev pub given_at : Option ℕ → Bool → Bool → ℕ → Result Given Refusal
+given_at None v w n = Err refusal.NotADay
+given_at (Some day) false w n = Err refusal.BankList
+given_at (Some day) true false n = Err refusal.KnownList
+given_at (Some day) true true n = Ok (given day n)
+
+-- what the three files give, with a place for so many banks
+unfoldable pub given_by : List ℕ → List ℕ → List ℕ → ℕ → Result Given Refusal
+given_by day banks known room = given_at (day_of day) (is_banks banks room) (is_known_file known) (length banks / 9)
 
 -- the banks over the front of the list, where nothing is refused
-abbrev pub listed : Given → List ℕ → List ℕ → List ℕ
-listed (Files day n) banks list = over list 0 (numbers banks)
-listed (Refused r) banks list = list
+abbrev pub listed : Result Given Refusal → List ℕ → List ℕ → List ℕ
+listed (Ok g) banks list = over list 0 (numbers banks)
+listed (Err r) banks list = list
 
-pub record ReadAs (day banks known list : List ℕ) (r : Given) (list' : List ℕ) : Type 0 where
+pub record ReadAs (day banks known list : List ℕ) (r : Result Given Refusal) (list' : List ℕ) : Type 0 where
   pub result : r ≡ given_by day banks known (length list)
   pub bytes : list' ≡ listed r banks list

@@ -6,7 +6,6 @@ ghost use Rattle.std.specs.Prelude.{◌≡◌, ◌/◌, ◌≤◌, length};
 ghost use Rattle.base.specs.Bytes.{over};
 ghost use Rattle.files.specs.Files.{day_of, is_line, numbers, ordered, is_banks, is_known_file, ReadAs};
 
-use calendar::DateField;
 use lent::Refusal;
 
 // The most bytes that a file may have.
@@ -21,23 +20,19 @@ const LINE: usize = 9;
 // The most banks that a file can hold.
 pub const BANKS: usize = LENGTH / LINE;
 
-// What the three files say.
+// What the three files say: the clearing day, and how many banks there are.
 #[derive(Clone, Copy)]
-pub enum Given {
-    // The clearing day, and how many banks there are.
-    Files { day: u32, banks: usize },
-    Refused(Refusal),
+pub struct Given {
+    pub day: u32,
+    pub banks: usize,
 }
 
-// The date that `day` says, 0 for none.
-pub fn day(s: &[u8]) -> u32
+// The date that `day` says, where it says one.
+#[tactic(auto, unfolding(crate::specs::Files::day_of))]
+pub fn day(s: &[u8]) -> Option<u32>
     ensures { result ≡ day_of s.now }
 {
-    match calendar::read_date(s) {
-        DateField::Date(n) => n,
-        DateField::NotDigits => 0,
-        DateField::NoDate => 0,
-    }
+    calendar::read_date(s).ok()
 }
 
 // Nine bytes are a line of `banks`.
@@ -45,58 +40,40 @@ fn is_line(s: &[u8]) -> bool
     requires { length s.now ≡ 9 }
     ensures { result ≡ is_line s.now }
 {
-    if s[8] != b'\n' {
-        return false;
-    }
-    digits::is_digits(&s[0..8])
+    digits::is_digits(&s[..8]) && s[8] == b'\n'
 }
 
 // Each whole line is one, and the numbers ascend: each is at least one above the number before it.
 fn in_order(s: &[u8]) -> bool
     ensures { result ≡ ordered s.now }
 {
-    let n = s.len() / LINE;
     let mut least: u64 = 0;
-    let mut k = 0;
-    while k < n {
-        let at = k * LINE;
-        if !is_line(&s[at..at + LINE]) {
+    for line in s.chunks_exact(LINE) {
+        if !is_line(line) {
             return false;
         }
-        let x = digits::number(&s[at..at + 8]);
+        let x = digits::number(&line[..8]);
         if x < least {
             return false;
         }
         least = x + 1;
-        k += 1;
     }
     true
 }
 
 // `banks` is what it should be, and its numbers have a place in a list of so many.
+#[tactic(auto, unfolding(crate::specs::Files::is_banks))]
 fn is_banks(s: &[u8], room: usize) -> bool
     ensures { result ≡ is_banks s.now room }
 {
-    if s.len() > LENGTH {
-        return false;
-    }
-    if s.len() % LINE != 0 {
-        return false;
-    }
-    if s.len() / LINE > room {
-        return false;
-    }
-    in_order(s)
+    s.len() <= LENGTH && s.len() % LINE == 0 && s.len() / LINE <= room && in_order(s)
 }
 
 // `known` is what it should be.
 fn is_known(s: &[u8]) -> bool
     ensures { result ≡ is_known_file s.now }
 {
-    if s.len() > LENGTH {
-        return false;
-    }
-    lists::is_known_list(s)
+    s.len() <= LENGTH && lists::is_known_list(s)
 }
 
 // The numbers of the lines, at the front of the list.
@@ -104,33 +81,28 @@ fn fill(list: &mut [u32], s: &[u8])
     requires { length s.now / 9 ≤ length list.old }
     ensures { list.new ≡ over list.old 0 (numbers s.now) }
 {
-    let n = s.len() / LINE;
-    let mut k = 0;
-    while k < n {
+    for k in 0..s.len() / LINE {
         let at = k * LINE;
         list[k] = digits::number(&s[at..at + 8]) as u32;
-        k += 1;
     }
 }
 
 // The files are judged: refusals 1, 2, 3. The banks stand at the front of the list then; a refusal leaves it as it was. A list
 // that is too short is refused with 2; one of `BANKS` numbers never is.
-pub fn read(day_file: &[u8], banks: &[u8], known: &[u8], list: &mut [u32]) -> Given
+#[tactic(auto, using(crate::proofs::Says::banks_fit), unfolding(crate::specs::Files::given_by))]
+pub fn read(day_file: &[u8], banks: &[u8], known: &[u8], list: &mut [u32]) -> Result<Given, Refusal>
     ensures { ReadAs day_file.now banks.now known.now list.old result list.new }
 {
-    let e = day(day_file);
-    if e == 0 {
-        return Given::Refused(Refusal::NotADay);
-    }
+    let day = day(day_file).ok_or(Refusal::NotADay)?;
     if !is_banks(banks, list.len()) {
-        return Given::Refused(Refusal::BankList);
+        return Err(Refusal::BankList);
     }
     if !is_known(known) {
-        return Given::Refused(Refusal::KnownList);
+        return Err(Refusal::KnownList);
     }
     fill(list, banks);
-    Given::Files {
-        day: e,
+    Ok(Given {
+        day,
         banks: banks.len() / LINE,
-    }
+    })
 }

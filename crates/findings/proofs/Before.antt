@@ -7,8 +7,8 @@ use Rattle.findings.specs.declared.Kind.{Kind}
 use Rattle.findings.specs.declared.Kind.TheVariants.{Letter, Mark, Form, NotDigits, CheckDigit, NoDate}
 use Rattle.findings.specs.declared.Kind.TheVariants.{OutsideDays, NotListed, Known, BlankOrZero, OutOfOrder, Other}
 use Rattle.findings.specs.declared.Kind.TheVariants.{FormOfFirstEight, FormOfLastEight, CheckDigitOverEight, CheckDigitOverSixteen}
-use Rattle.findings.specs.declared.Finding.{Finding}
-use Rattle.findings.specs.declared.Finding.TheVariants.{Right, Fault}
+use Rattle.findings.specs.Findings.{Finding}
+use Rattle.std.specs.Prelude.{Ok, Err}
 use Rattle.findings.specs.Codes.{Code, Rule, always, digits_else, whole, alone, whole_code, item_code, first_whole, first_alone}
 use Rattle.findings.specs.Before.{came_from, found_before, rule_before}
 
@@ -38,12 +38,12 @@ else_alike x y OutOfOrder = refl
 else_alike x y Other = refl
 
 same_whole : (c : Kind → Code) → Alike c → (f : Finding) → whole_code c (found_before f) ≡ whole_code c f
-same_whole c h Right = refl
-same_whole c h (Fault k) = ap whole (h k)
+same_whole c h (Ok u) = refl
+same_whole c h (Err k) = ap whole (h k)
 
 same_alone : (c : Kind → Code) → Alike c → (f : Finding) → item_code c (found_before f) ≡ item_code c f
-same_alone c h Right = refl
-same_alone c h (Fault k) = ap alone (h k)
+same_alone c h (Ok u) = refl
+same_alone c h (Err k) = ap alone (h k)
 
 -- the first Ü code and the first T code of rules are those of what 01's kinds give
 pub whole_before : (rs : List Rule) → Each (λ r. Alike r.code) rs → first_whole (map rule_before rs) ≡ first_whole rs

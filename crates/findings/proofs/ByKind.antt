@@ -7,8 +7,8 @@ use Rattle.findings.specs.declared.Kind.{Kind}
 use Rattle.findings.specs.declared.Kind.TheVariants.{Letter, Mark, Form, NotDigits, CheckDigit, NoDate}
 use Rattle.findings.specs.declared.Kind.TheVariants.{OutsideDays, NotListed, Known, BlankOrZero, OutOfOrder, Other}
 use Rattle.findings.specs.declared.Kind.TheVariants.{FormOfFirstEight, FormOfLastEight, CheckDigitOverEight, CheckDigitOverSixteen}
-use Rattle.findings.specs.declared.Finding.{Finding}
-use Rattle.findings.specs.declared.Finding.TheVariants.{Right, Fault}
+use Rattle.findings.specs.Findings.{Finding}
+use Rattle.std.specs.Prelude.{Ok, Err}
 use Rattle.findings.specs.Codes.{Code, Ü, T, always, digits_else, whole, alone, whole_code, item_code, either_code}
 
 -- what is said of both codes is said of the one that the kind has
@@ -50,36 +50,36 @@ by_kind h x y OutOfOrder = refl
 by_kind h x y Other = refl
 
 pub whole_else : (x y : Code) (f : Finding) → whole_code (digits_else x y) f ≡ either_code (whole x) (whole y) f
-whole_else x y Right = refl
-whole_else x y (Fault k) = by_kind whole x y k
+whole_else x y (Ok u) = refl
+whole_else x y (Err k) = by_kind whole x y k
 
 pub alone_else : (x y : Code) (f : Finding) → item_code (digits_else x y) f ≡ either_code (alone x) (alone y) f
-alone_else x y Right = refl
-alone_else x y (Fault k) = by_kind alone x y k
+alone_else x y (Ok u) = refl
+alone_else x y (Err k) = by_kind alone x y k
 
 -- one code for each kind: a T code counts for an item as an Ü code does for the message
 pub alone_always : (n : ℕ) (f : Finding) → item_code (always (T n)) f ≡ whole_code (always (Ü n)) f
-alone_always n Right = refl
-alone_always n (Fault k) = refl
+alone_always n (Ok u) = refl
+alone_always n (Err k) = refl
 
 -- and the other way it is none
 pub no_whole : (n : ℕ) (f : Finding) → whole_code (always (T n)) f ≡ 0
-no_whole n Right = refl
-no_whole n (Fault k) = refl
+no_whole n (Ok u) = refl
+no_whole n (Err k) = refl
 
 pub no_alone : (n : ℕ) (f : Finding) → item_code (always (Ü n)) f ≡ 0
-no_alone n Right = refl
-no_alone n (Fault k) = refl
+no_alone n (Ok u) = refl
+no_alone n (Err k) = refl
 
 pub no_code : (f : Finding) → either_code 0 0 f ≡ 0
-no_code Right = refl
-no_code (Fault k) = of_both (λ (n : ℕ). n ≡ 0) 0 0 refl refl k
+no_code (Ok u) = refl
+no_code (Err k) = of_both (λ (n : ℕ). n ≡ 0) 0 0 refl refl k
 
 -- a finding's code is below what its codes are below
 pub either_lt : {n : ℕ} (c d : ℕ) → c < n → d < n → (f : Finding) → either_code c d f < n
-either_lt c d p q Right = omega arith
-either_lt {n} c d p q (Fault k) = of_both (λ (m : ℕ). m < n) c d p q k
+either_lt c d p q (Ok u) = omega arith
+either_lt {n} c d p q (Err k) = of_both (λ (m : ℕ). m < n) c d p q k
 
 pub always_lt : {n : ℕ} (c : ℕ) → c < n → (f : Finding) → whole_code (always (Ü c)) f < n
-always_lt c p Right = omega arith
-always_lt c p (Fault k) = p
+always_lt c p (Ok u) = omega arith
+always_lt c p (Err k) = p

@@ -14,16 +14,16 @@ use Rattle.findings.specs.declared.Kind.{Kind}
 use Rattle.findings.specs.declared.Kind.TheVariants.{Letter, Mark, Form, NotDigits, CheckDigit, NoDate}
 use Rattle.findings.specs.declared.Kind.TheVariants.{OutsideDays, NotListed, Known, BlankOrZero, OutOfOrder, Other}
 use Rattle.findings.specs.declared.Kind.TheVariants.{FormOfFirstEight, FormOfLastEight, CheckDigitOverEight, CheckDigitOverSixteen}
-use Rattle.findings.specs.declared.Finding.{Finding}
-use Rattle.findings.specs.declared.Finding.TheVariants.{Right, Fault}
+use Rattle.findings.specs.Findings.{Finding, Right}
+use Rattle.std.specs.Prelude.{Ok, Err}
 use Rattle.findings.specs.Codes.{Code, Ü, T, Rule, whole, whole_code, first_whole}
 use Rattle.findings.specs.Faults.{is_whole, is_code, kinds, passes_each, codes_pass}
 use Rattle.findings.proofs.Row.{neither}
 
 -- what is found in a field is a fault of the whole message
 abbrev pub spoils : (Kind → Code) → Finding → Bool
-spoils c Right = false
-spoils c (Fault k) = is_whole (c k)
+spoils c (Ok u) = false
+spoils c (Err k) = is_whole (c k)
 
 -- nothing is found in any field
 abbrev pub AllRight : List Rule → Type 0
@@ -68,12 +68,12 @@ none_whole (Ü n) e = absurd (false≢true (sym e))
 none_whole (T n) e = refl
 
 spared : (c : Kind → Code) (f : Finding) → ((k : Kind) → is_code (c k) ≡ true) → whole_code c f ≡ 0 → spoils c f ≡ false
-spared c Right h e = refl
-spared c (Fault k) h e = not_whole (c k) (h k) e
+spared c (Ok u) h e = refl
+spared c (Err k) h e = not_whole (c k) (h k) e
 
 uncoded : (c : Kind → Code) (f : Finding) → spoils c f ≡ false → whole_code c f ≡ 0
-uncoded c Right e = refl
-uncoded c (Fault k) e = none_whole (c k) e
+uncoded c (Ok u) e = refl
+uncoded c (Err k) e = none_whole (c k) e
 
 pub none_spoils : (rs : List Rule) → codes_pass is_code rs ≡ true → first_whole rs ≡ 0 → NoneSpoils rs
 none_spoils [] h e = tt
@@ -88,8 +88,8 @@ no_code (r ∷ rs) s = rw (uncoded r.code r.found s.0) (no_code rs s.1)
 
 -- where each code is one of the whole message, each finding is a fault of it
 right : (c : Kind → Code) (f : Finding) → ((k : Kind) → is_whole (c k) ≡ true) → spoils c f ≡ false → f ≡ Right
-right c Right h e = refl
-right c (Fault k) h e = absurd (false≢true (sym e ∙ h k))
+right c (Ok u) h e = refl
+right c (Err k) h e = absurd (false≢true (sym e ∙ h k))
 
 pub all_right : (rs : List Rule) → codes_pass is_whole rs ≡ true → NoneSpoils rs → AllRight rs
 all_right [] h s = tt

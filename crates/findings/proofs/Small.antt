@@ -8,8 +8,8 @@ use lib.Dec.{lit<}
 use borrow.Author.Tests.{ltb-true}
 use Rattle.base.proofs.Every.{both}
 use Rattle.findings.specs.declared.Kind.{Kind}
-use Rattle.findings.specs.declared.Finding.{Finding}
-use Rattle.findings.specs.declared.Finding.TheVariants.{Right, Fault}
+use Rattle.findings.specs.Findings.{Finding}
+use Rattle.std.specs.Prelude.{Ok, Err}
 use Rattle.findings.specs.Codes.{Code, Ü, T, Rule, whole, whole_code, first_whole, alone, item_code, first_alone}
 use Rattle.findings.specs.Faults.{is_short, kinds, passes_each, codes_pass}
 use Rattle.findings.proofs.Row.{earlier_lt}
@@ -26,12 +26,12 @@ alone_short (T n) h = ltb-true n 100 h
 -- one rule
 module _ (c : Kind → Code) (h : (k : Kind) → is_short (c k) ≡ true) where
   whole_lt : (f : Finding) → whole_code c f < 100
-  whole_lt Right = lit< tt
-  whole_lt (Fault k) = whole_short (c k) (h k)
+  whole_lt (Ok u) = lit< tt
+  whole_lt (Err k) = whole_short (c k) (h k)
 
   alone_lt : (f : Finding) → item_code c f < 100
-  alone_lt Right = lit< tt
-  alone_lt (Fault k) = alone_short (c k) (h k)
+  alone_lt (Ok u) = lit< tt
+  alone_lt (Err k) = alone_short (c k) (h k)
 
 pub first_whole_lt : (rs : List Rule) → codes_pass is_short rs ≡ true → first_whole rs < 100
 first_whole_lt [] h = lit< tt

@@ -4,8 +4,8 @@ use Rattle.findings.specs.declared.Kind.{Kind}
 use Rattle.findings.specs.declared.Kind.TheVariants.{Letter, Mark, Form, NotDigits, CheckDigit, NoDate}
 use Rattle.findings.specs.declared.Kind.TheVariants.{OutsideDays, NotListed, Known, BlankOrZero, OutOfOrder, Other}
 use Rattle.findings.specs.declared.Kind.TheVariants.{FormOfFirstEight, FormOfLastEight, CheckDigitOverEight, CheckDigitOverSixteen}
-use Rattle.findings.specs.declared.Finding.{Finding}
-use Rattle.findings.specs.declared.Finding.TheVariants.{Right, Fault}
+use Rattle.findings.specs.Findings.{Finding}
+use Rattle.std.specs.Prelude.{Ok, Err}
 use Rattle.findings.specs.Codes.{Rule, rule}
 
 -- the kind of 01 that a kind came from; one of 01's is its own
@@ -28,8 +28,8 @@ came_from OutOfOrder = OutOfOrder
 came_from Other = Other
 
 abbrev pub found_before : Finding → Finding
-found_before Right = Right
-found_before (Fault k) = Fault (came_from k)
+found_before (Ok u) = (Ok u)
+found_before (Err k) = Err (came_from k)
 
 abbrev pub rule_before : Rule → Rule
 rule_before r = rule r.named r.code (found_before r.found)

@@ -1,14 +1,14 @@
 -- A rule: a field's name, its codes and what is found in it; and the codes that follow from a list of rules in their order
 -- (01, Faults of the whole message; Item rules).
 -- Assumes nothing.
-use Rattle.std.specs.Prelude.{ℕ, List, map}
+use Rattle.std.specs.Prelude.{ℕ, List, map, Result, ⊤}
 use Rattle.frame.specs.Verdict.{first}
 use Rattle.findings.specs.declared.Kind.{Kind}
 use Rattle.findings.specs.declared.Kind.TheVariants.{Letter, Mark, Form, NotDigits, CheckDigit, NoDate}
 use Rattle.findings.specs.declared.Kind.TheVariants.{OutsideDays, NotListed, Known, BlankOrZero, OutOfOrder, Other}
 use Rattle.findings.specs.declared.Kind.TheVariants.{FormOfFirstEight, FormOfLastEight, CheckDigitOverEight, CheckDigitOverSixteen}
-use Rattle.findings.specs.declared.Finding.{Finding}
-use Rattle.findings.specs.declared.Finding.TheVariants.{Right, Fault}
+use Rattle.findings.specs.Findings.{Finding}
+use Rattle.std.specs.Prelude.{Ok, Err}
 use Rattle.findings.specs.declared.Answer.{Answer}
 
 -- a code of the whole message, or of an item alone (the marks Ü and T of the standard)
@@ -54,8 +54,8 @@ whole (Ü n) = n
 whole (T n) = 0
 
 abbrev pub whole_code : (Kind → Code) → Finding → ℕ
-whole_code c Right = 0
-whole_code c (Fault k) = whole (c k)
+whole_code c (Ok u) = 0
+whole_code c (Err k) = whole (c k)
 
 -- the T code of a field, 0 where it has none
 abbrev pub alone : Code → ℕ
@@ -63,13 +63,18 @@ alone (Ü n) = 0
 alone (T n) = n
 
 abbrev pub item_code : (Kind → Code) → Finding → ℕ
-item_code c Right = 0
-item_code c (Fault k) = alone (c k)
+item_code c (Ok u) = 0
+item_code c (Err k) = alone (c k)
 
 -- c for what isn't digits, d for the rest, 0 where nothing is wrong
 abbrev pub either_code : ℕ → ℕ → Finding → ℕ
-either_code c d Right = 0
-either_code c d (Fault k) = digits_else c d k
+either_code c d (Ok u) = 0
+either_code c d (Err k) = digits_else c d k
+
+-- the code of a fault, 0 where there is none
+abbrev pub code_of : Result ⊤ ℕ → ℕ
+code_of (Ok u) = 0
+code_of (Err c) = c
 
 -- the first Ü code, and the first T code
 abbrev pub first_whole : List Rule → ℕ

@@ -2,37 +2,73 @@
 // field (01, Calls and their answers).
 #![tactic(auto)]
 
-ghost use Rattle.std.specs.Prelude.{◌≡◌};
+ghost use Rattle.std.specs.Prelude.{◌≡◌, Ok};
 ghost use Rattle.frame.specs.Machine.{earlier};
-ghost use Rattle.findings.specs.Findings.{unless, kind_number};
+ghost use Rattle.findings.specs.Findings.{unless, kind_number, date_kind, account_kind};
 ghost use Rattle.findings.specs.Codes.{Ü, always, whole_code, either_code};
 
-// The kinds of fault, in 01's order as 02 #102 amends it: four are an account's alone.
-#[derive(Clone, Copy)]
+use account::AccountFault;
+use calendar::DateFault;
+
+// The kinds of fault, in 01's order as 02 #102 amends it, four of them an account's alone; each with its number: its place in 01's list, and then
+// those of 02 #102.
+#[derive(Clone, Copy, PartialEq, Eq)]
 pub enum Kind {
-    Letter,
-    Mark,
-    Form,
-    FormOfFirstEight,
-    FormOfLastEight,
-    NotDigits,
-    CheckDigit,
-    CheckDigitOverEight,
-    CheckDigitOverSixteen,
-    NoDate,
-    OutsideDays,
-    NotListed,
-    Known,
-    BlankOrZero,
-    OutOfOrder,
-    Other,
+    Letter = 1,
+    Mark = 2,
+    Form = 3,
+    FormOfFirstEight = 13,
+    FormOfLastEight = 14,
+    NotDigits = 4,
+    CheckDigit = 5,
+    CheckDigitOverEight = 15,
+    CheckDigitOverSixteen = 16,
+    NoDate = 6,
+    OutsideDays = 7,
+    NotListed = 8,
+    Known = 9,
+    BlankOrZero = 10,
+    OutOfOrder = 11,
+    Other = 12,
 }
 
-#[derive(Clone, Copy)]
-pub enum Finding {
-    Right,
-    Fault(Kind),
+// The number of a kind.
+impl From<Kind> for u8 {
+    ghost from_gives = { λ k n. n ≡ kind_number k };
+
+    fn from(k: Kind) -> u8 {
+        k as u8
+    }
 }
+
+// Why a field holds no date, as a kind of fault.
+impl From<DateFault> for Kind {
+    ghost from_gives = { λ fault k. k ≡ date_kind fault };
+
+    fn from(fault: DateFault) -> Kind {
+        match fault {
+            DateFault::NotDigits => Kind::NotDigits,
+            DateFault::NoDate => Kind::NoDate,
+        }
+    }
+}
+
+// Why a field holds no account, as a kind of fault.
+impl From<AccountFault> for Kind {
+    ghost from_gives = { λ fault k. k ≡ account_kind fault };
+
+    fn from(fault: AccountFault) -> Kind {
+        match fault {
+            AccountFault::FormOfFirstEight => Kind::FormOfFirstEight,
+            AccountFault::FormOfLastEight => Kind::FormOfLastEight,
+            AccountFault::CheckDigitOverEight => Kind::CheckDigitOverEight,
+            AccountFault::CheckDigitOverSixteen => Kind::CheckDigitOverSixteen,
+        }
+    }
+}
+
+// What is found in a field: nothing wrong, or the kind of its first fault.
+pub type Finding = Result<(), Kind>;
 
 // The answer on a single record: acceptance, a refusal, or the field named with the kind of its fault.
 #[derive(Clone, Copy)]
@@ -62,13 +98,9 @@ pub enum Answer {
 
 // Nothing wrong, or the kind of fault.
 pub fn found(ok: bool, k: Kind) -> Finding
-    ensures { result ≡ unless ok k Finding.Right }
+    ensures { result ≡ unless ok k (Ok tt) }
 {
-    if ok {
-        Finding::Right
-    } else {
-        Finding::Fault(k)
-    }
+    if ok { Ok(()) } else { Err(k) }
 }
 
 // The first of two codes that isn't 0.
@@ -83,8 +115,8 @@ pub fn ranked(f: Finding, code: u8, later: u8) -> u8
     ensures { result ≡ earlier (whole_code (always (Ü code)) f) later }
 {
     match f {
-        Finding::Right => later,
-        Finding::Fault(_) => earlier(code, later),
+        Ok(()) => later,
+        Err(_) => earlier(code, later),
     }
 }
 
@@ -93,34 +125,8 @@ pub fn ranked_else(f: Finding, digits: u8, other: u8, later: u8) -> u8
     ensures { result ≡ earlier (either_code digits other f) later }
 {
     match f {
-        Finding::Right => later,
-        Finding::Fault(k) => match k {
-            Kind::NotDigits => earlier(digits, later),
-            _ => earlier(other, later),
-        },
-    }
-}
-
-// The number of a kind: its place in 01's list, and then those of 02 #102.
-pub fn kind_number(k: Kind) -> u8
-    ensures { result ≡ kind_number k }
-{
-    match k {
-        Kind::Letter => 1,
-        Kind::Mark => 2,
-        Kind::Form => 3,
-        Kind::NotDigits => 4,
-        Kind::CheckDigit => 5,
-        Kind::NoDate => 6,
-        Kind::OutsideDays => 7,
-        Kind::NotListed => 8,
-        Kind::Known => 9,
-        Kind::BlankOrZero => 10,
-        Kind::OutOfOrder => 11,
-        Kind::Other => 12,
-        Kind::FormOfFirstEight => 13,
-        Kind::FormOfLastEight => 14,
-        Kind::CheckDigitOverEight => 15,
-        Kind::CheckDigitOverSixteen => 16,
+        Ok(()) => later,
+        Err(Kind::NotDigits) => earlier(digits, later),
+        Err(_) => earlier(other, later),
     }
 }

@@ -1,3 +1,4 @@
+pub mod Starts
 pub mod Pieces
 pub mod Counting
 pub mod Uncut

@@ -10,6 +10,7 @@ ghost use Rattle.frame.specs.Places.{foot_at, later_at, record_at};
 #[derive(Clone, Copy)]
 pub struct Found {
     pub letter: bool,
+    // Kept: an Option is no plainer: 00 is a code of its own, that of no fault, and goes to the table and the verdict as it stands.
     pub fault: u8,
     pub code: u8,
     pub amount: u64,
@@ -26,6 +27,7 @@ pub struct Totals {
 // What the head tells the rules of its items: the kind of message, and whether its bank is barred (02 #101, #105).
 #[derive(Clone, Copy)]
 pub struct Told {
+    // Kept: refusal 5 is promised for a `judge::Session` whose kind is no kind's, and such a session must have a value.
     pub kind: u8,
     pub barred: bool,
 }
@@ -34,6 +36,7 @@ pub struct Told {
 // What the head told is all that the rules of items may take from it. The code is the first fault of head, items and foot.
 #[derive(Clone, Copy)]
 pub struct Tally {
+    // Kept: refusal 5 is promised for a `judge::Session` whose phase is over 5, and such a session must have a value.
     pub phase: u8,
     pub letter: bool,
     pub code: u8,
@@ -48,6 +51,7 @@ pub struct Tally {
 #[derive(Clone, Copy)]
 pub struct Closing {
     pub code: u8,
+    // Kept: the frame is proved for any field rules and stands below the crate that has the kinds; the C interface takes this as a number.
     pub kind: u32,
     pub accepted: Totals,
     pub refused: Totals,
@@ -71,42 +75,31 @@ pub struct Status {
 }
 
 // The identifier, positions 10-34, of what begins with a head; spaces where there are fewer than 34 bytes.
+#[tactic(auto, using(std::proofs::lemmas::Bool::Decides::nat_tests), unfolding(crate::specs::Records::id_of))]
 pub fn identifier(x: &[u8]) -> [u8; 25]
     ensures { result ≡ id_of x.now }
 {
     let mut id = [b' '; 25];
-    if x.len() < 34 {
-        return id;
-    }
-    let mut i = 0;
-    while i < 25 {
-        id[i] = x[9 + i];
-        i += 1;
+    if x.len() >= 34 {
+        id.copy_from_slice(&x[9..34]);
     }
     id
 }
 
 // The first n bytes are a record with its ending, 0Dh 0Ah, after it.
+#[tactic(auto, using(crate::proofs::Starts::ends_so, crate::proofs::Starts::no_room))]
 pub fn has_ending(x: &[u8], n: usize) -> bool
     ensures { result ≡ ended n x.now }
 {
-    if x.len() < 2 {
-        return false;
-    }
-    if n > x.len() - 2 {
-        return false;
-    }
-    (x[n] == 0x0d) & (x[n + 1] == 0x0a)
+    n <= x.len() && x[n..].starts_with(b"\r\n")
 }
 
 // A record that begins 03 is the foot.
+#[tactic(auto, using(crate::proofs::Starts::starts), unfolding(crate::specs::Records::is_foot))]
 pub fn is_foot(x: &[u8]) -> bool
     ensures { result ≡ is_foot x.now }
 {
-    if x.len() < 2 {
-        return false;
-    }
-    (x[0] == b'0') & (x[1] == b'3')
+    x.starts_with(b"03")
 }
 
 // What stands at a position of a message: a record, with its start and the next position; a break; or the end.
@@ -138,6 +131,7 @@ pub const ITEM_ENDED: usize = ITEM + 2;
 pub const FOOT_ENDED: usize = FOOT + 2;
 
 // The foot stands at a position, with some item before it, and ends the message.
+#[tactic(auto, using(std::proofs::lemmas::Bool::Decides::nat_tests, base::proofs::Parts::tail))]
 fn foot_at(message: &[u8], at: usize) -> bool
     requires { (head_end ≤ at) × (at ≤ length message.now) }
     ensures { result ≡ foot_at message.now at }
@@ -147,6 +141,7 @@ fn foot_at(message: &[u8], at: usize) -> bool
 }
 
 // The record after the head that begins at a position.
+#[tactic(auto, using(std::proofs::lemmas::Bool::Decides::nat_tests, base::proofs::Parts::tail), unfolding(crate::specs::Places::later_at))]
 fn later_at(message: &[u8], at: usize) -> Record
     requires { (head_end ≤ at) × (at ≤ length message.now) }
     ensures { result ≡ later_at message.now at }
@@ -158,10 +153,7 @@ fn later_at(message: &[u8], at: usize) -> Record
         };
     }
     let x = &message[at..];
-    if is_foot(x) {
-        return Record::Break;
-    }
-    if has_ending(x, ITEM) {
+    if !is_foot(x) && has_ending(x, ITEM) {
         return Record::Item {
             start: at,
             next: at + ITEM_ENDED,
@@ -172,33 +164,22 @@ fn later_at(message: &[u8], at: usize) -> Record
 
 // What stands at a position: the head at 0, a later record a head and k items on, the end after the foot; anything else
 // is no place where a record begins, and a break.
+#[tactic(auto, using(std::proofs::lemmas::Bool::Decides::nat_tests), unfolding(crate::specs::Places::record_at))]
 pub fn record_at(message: &[u8], at: usize) -> Record
     ensures { result ≡ record_at message.now at }
 {
-    if at == 0 {
-        if has_ending(message, HEAD) {
-            return Record::Head {
-                start: 0,
-                next: HEAD_ENDED,
-            };
-        }
+    if at == 0 && has_ending(message, HEAD) {
+        return Record::Head {
+            start: 0,
+            next: HEAD_ENDED,
+        };
+    }
+    if at < HEAD_ENDED || at > message.len() {
         return Record::Break;
     }
-    if at < HEAD_ENDED {
-        return Record::Break;
+    match (at - HEAD_ENDED) % ITEM_ENDED {
+        0 => later_at(message, at),
+        FOOT_ENDED if foot_at(message, at - FOOT_ENDED) => Record::End,
+        _ => Record::Break,
     }
-    if at > message.len() {
-        return Record::Break;
-    }
-    let beyond = (at - HEAD_ENDED) % ITEM_ENDED;
-    if beyond == 0 {
-        return later_at(message, at);
-    }
-    if beyond != FOOT_ENDED {
-        return Record::Break;
-    }
-    if foot_at(message, at - FOOT_ENDED) {
-        return Record::End;
-    }
-    Record::Break
 }

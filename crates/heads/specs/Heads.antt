@@ -6,7 +6,7 @@ use Rattle.base.specs.Bytes.{ascii, field}
 use Rattle.digits.specs.Digits.{number_of}
 use Rattle.account.specs.Account.{account_of}
 use Rattle.frame.specs.Records.{lengths}
-use Rattle.findings.specs.declared.Finding.TheVariants.{Right}
+use Rattle.findings.specs.Findings.{Right}
 use Rattle.findings.specs.declared.Answer.TheVariants as named
 use Rattle.findings.specs.Codes.{Ü, Rule, rule, always}
 use Rattle.fields.specs.Fields.{mark_found, duplicate_found, digit_found, identifier_found, number_found, purpose_found, name_found, filled_found}

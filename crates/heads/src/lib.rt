@@ -1,18 +1,17 @@
 // The head of a message of either kind: what is found in its fields, its code, and what it tells its items (002 sections 1.1.1 and 2.1.1).
 #![tactic(auto)]
 
-ghost use Rattle.std.specs.Prelude.{◌≡◌, length};
-ghost use Rattle.base.specs.Bytes.{field, same};
+ghost use Rattle.std.specs.Prelude.{◌≡◌};
+ghost use Rattle.base.specs.Bytes.{field};
 ghost use Rattle.digits.specs.Digits.{number_of};
 ghost use Rattle.lists.specs.Banks.{found_in};
-ghost use Rattle.findings.specs.Codes.{first_whole};
-ghost use Rattle.frame.specs.Records.{lengths};
+ghost use Rattle.findings.specs.Codes.{first_whole, code_of};
 ghost use Rattle.fields.specs.Fields.{identifier_found};
 ghost use Rattle.checked.specs.Checked.{debit_found};
 ghost use Rattle.kinds.specs.Kinds.{kind_of, is_barred_bank, told_of};
 ghost use Rattle.heads.specs.Heads.{atutal_fields, as_beszed, head_fields, head_findings, head_rules_of, head_found};
 
-use findings::{Finding, Kind, found, ranked};
+use findings::{Finding, Kind, found};
 
 // What is found in a head: a bad letter in its text, and the code of its first fault, 0 where it has none.
 #[derive(Clone, Copy)]
@@ -38,19 +37,23 @@ pub struct HeadFindings {
     pub name: Finding,
 }
 
-// The bytes are a word of six letters.
-fn is_word(s: &[u8], word: &[u8]) -> bool
-    requires { length word.now ≡ 6 }
-    ensures { result ≡ same s.now word.now }
-{
-    if s.len() != 6 {
-        return false;
-    }
-    (s[0] == word[0])
-        & ((s[1] == word[1])
-            & ((s[2] == word[2]) & ((s[3] == word[3]) & ((s[4] == word[4]) & (s[5] == word[5])))))
-}
+// Nothing is found.
+const ALL_RIGHT: HeadFindings = HeadFindings {
+    mark: Ok(()),
+    message: Ok(()),
+    duplicate: Ok(()),
+    initiator: Ok(()),
+    identifier: Ok(()),
+    date: Ok(()),
+    number: Ok(()),
+    bank: Ok(()),
+    account: Ok(()),
+    debit: Ok(()),
+    purpose: Ok(()),
+    name: Ok(()),
+};
 
+// Kept: a number, since what may not change is `kind_of` (kinds/specs/Kinds), and that `frame::Told` holds one.
 // The kind that a head tells by its positions 3-8: 1 for BESZED, 0 for ATUTAL, which any other bytes are (02, #101).
 pub fn kind_of(r: &[u8]) -> u32
     ensures { result ≡ kind_of r.now }
@@ -58,7 +61,7 @@ pub fn kind_of(r: &[u8]) -> u32
     if r.len() < 8 {
         return kinds::ATUTAL;
     }
-    if is_word(&r[2..8], b"BESZED") {
+    if text::is_same(&r[2..8], b"BESZED") {
         return kinds::BESZED;
     }
     kinds::ATUTAL
@@ -89,16 +92,14 @@ pub fn told_of(r: &[u8], barred: &[u32]) -> frame::Told
 }
 
 // The identifier of a whole head: not one of the known list.
-fn identifier_in(r: &[u8], known: &[u8]) -> Finding
-    requires { length r.now ≡ lengths.head }
+fn identifier_in(r: &[u8; frame::HEAD], known: &[u8]) -> Finding
     ensures { result ≡ identifier_found known.now (field 10 34 r.now) }
 {
     found(!lists::is_known(known, frame::identifier(r)), Kind::Known)
 }
 
 // The debit date of a whole head, with its date as a number; 0 where that isn't digits, and no date.
-fn debit_in(r: &[u8], e: u32) -> Finding
-    requires { length r.now ≡ lengths.head }
+fn debit_in(r: &[u8; frame::HEAD], e: u32) -> Finding
     ensures { result ≡ debit_found e (number_of (field 23 30 r.now)) (field 59 66 r.now) }
 {
     let c = digits::number(&r[22..30]) as u32;
@@ -106,14 +107,13 @@ fn debit_in(r: &[u8], e: u32) -> Finding
 }
 
 // What is found in the fields of a whole head by the rules of ATUTAL.
-fn atutal_in(r: &[u8], e: u32, banks: &[u32], known: &[u8]) -> HeadFindings
-    requires { length r.now ≡ lengths.head }
+fn atutal_in(r: &[u8; frame::HEAD], e: u32, banks: &[u32], known: &[u8]) -> HeadFindings
     ensures { result ≡ atutal_fields e (found_in banks.now) known.now r.now }
 {
     let b = r[8];
     HeadFindings {
         mark: fields::type_found(&r[0..2], b'1'),
-        message: found(is_word(&r[2..8], b"ATUTAL"), Kind::Mark),
+        message: found(text::is_same(&r[2..8], b"ATUTAL"), Kind::Mark),
         duplicate: found(digits::is_digit(b) | (b == b'@'), Kind::Mark),
         initiator: checked::initiator_found(&r[9..22]),
         identifier: identifier_in(r, known),
@@ -128,36 +128,23 @@ fn atutal_in(r: &[u8], e: u32, banks: &[u32], known: &[u8]) -> HeadFindings
 }
 
 // What is found in the fields of a whole head by the rules of BESZED, with what is found by those that it shares with ATUTAL.
-fn beszed_in(r: &[u8], f: HeadFindings) -> HeadFindings
-    requires { length r.now ≡ lengths.head }
+#[tactic(auto, using(fields::proofs::Byte::one), unfolding(crate::specs::Heads::as_beszed))]
+fn beszed_in(r: &[u8; frame::HEAD], f: HeadFindings) -> HeadFindings
     ensures { result ≡ as_beszed r.now f }
 {
-    let mark = f.mark;
-    let identifier = f.identifier;
-    let date = f.date;
-    let number = f.number;
-    let bank = f.bank;
-    let account = f.account;
-    let purpose = f.purpose;
     HeadFindings {
-        mark: mark,
-        message: Finding::Right,
+        message: Ok(()),
         duplicate: found(digits::is_digit(r[8]), Kind::Mark),
         initiator: checked::provider_found(&r[9..22]),
-        identifier: identifier,
-        date: date,
-        number: number,
-        bank: bank,
-        account: account,
-        debit: Finding::Right,
-        purpose: purpose,
+        debit: Ok(()),
         name: found(!text::is_blank_or_zero(&r[69..104]), Kind::BlankOrZero),
+        ..f
     }
 }
 
 // What is found in the fields of a whole head, by the kind that it tells.
-fn fields_in(r: &[u8], e: u32, banks: &[u32], known: &[u8]) -> HeadFindings
-    requires { length r.now ≡ lengths.head }
+#[tactic(auto, unfolding(crate::specs::Heads::head_fields))]
+fn fields_in(r: &[u8; frame::HEAD], e: u32, banks: &[u32], known: &[u8]) -> HeadFindings
     ensures { result ≡ head_fields e (found_in banks.now) known.now r.now }
 {
     let f = atutal_in(r, e, banks, known);
@@ -168,69 +155,46 @@ fn fields_in(r: &[u8], e: u32, banks: &[u32], known: &[u8]) -> HeadFindings
 }
 
 // What is found in the fields of a head, with E, the bank list and the known list; nothing in bytes of another length.
+#[tactic(auto, unfolding(crate::specs::Heads::head_findings))]
 pub fn all_findings(r: &[u8], e: u32, banks: &[u32], known: &[u8]) -> HeadFindings
     ensures { result ≡ head_findings e (found_in banks.now) known.now r.now }
 {
-    if r.len() == frame::HEAD {
-        return fields_in(r, e, banks, known);
-    }
-    HeadFindings {
-        mark: Finding::Right,
-        message: Finding::Right,
-        duplicate: Finding::Right,
-        initiator: Finding::Right,
-        identifier: Finding::Right,
-        date: Finding::Right,
-        number: Finding::Right,
-        bank: Finding::Right,
-        account: Finding::Right,
-        debit: Finding::Right,
-        purpose: Finding::Right,
-        name: Finding::Right,
-    }
+    let Ok(head) = <&[u8; frame::HEAD]>::try_from(r) else {
+        return ALL_RIGHT;
+    };
+    fields_in(head, e, banks, known)
 }
 
-// The code of a head's first fault: the last field first, each before those after it.
-fn code_of(f: HeadFindings) -> u8
-    ensures { result ≡ first_whole (head_rules_of f) }
+// The code of a head's first fault, in the order of its fields; Ok where it has none.
+#[tactic(auto, unfolding(crate::specs::Heads::head_rules_of))]
+fn coded(f: HeadFindings) -> Result<(), u8>
+    ensures { code_of result ≡ first_whole (head_rules_of f) }
 {
-    let mark = f.mark;
-    let message = f.message;
-    let duplicate = f.duplicate;
-    let initiator = f.initiator;
-    let identifier = f.identifier;
-    let date = f.date;
-    let number = f.number;
-    let bank = f.bank;
-    let account = f.account;
-    let debit = f.debit;
-    let purpose = f.purpose;
-    let name = f.name;
-    let c = ranked(name, 43, 0);
-    let c = ranked(purpose, 48, c);
-    let c = ranked(debit, 7, c);
-    let c = ranked(account, 45, c);
-    let c = ranked(bank, 1, c);
-    let c = ranked(number, 2, c);
-    let c = ranked(date, 44, c);
-    let c = ranked(identifier, 29, c);
-    let c = ranked(initiator, 43, c);
-    let c = ranked(duplicate, 42, c);
-    let c = ranked(message, 9, c);
-    ranked(mark, 41, c)
+    f.mark.or(Err(41))?;
+    f.message.or(Err(9))?;
+    f.duplicate.or(Err(42))?;
+    f.initiator.or(Err(43))?;
+    f.identifier.or(Err(29))?;
+    f.date.or(Err(44))?;
+    f.number.or(Err(2))?;
+    f.bank.or(Err(1))?;
+    f.account.or(Err(45))?;
+    f.debit.or(Err(7))?;
+    f.purpose.or(Err(48))?;
+    f.name.or(Err(43))
 }
 
 // What is found in a head, with E, the bank list and the known list; bytes of another length are a break.
 pub fn found_in(r: &[u8], e: u32, banks: &[u32], known: &[u8]) -> HeadFound
     ensures { result ≡ head_found e (found_in banks.now) known.now r.now }
 {
-    if r.len() != frame::HEAD {
+    let Ok(head) = <&[u8; frame::HEAD]>::try_from(r) else {
         return HeadFound {
             letter: false,
             code: 26,
         };
-    }
-    let letter = !text::is_text(&r[69..frame::HEAD]);
-    let code = code_of(fields_in(r, e, banks, known));
+    };
+    let letter = !text::is_text(&head[69..frame::HEAD]);
+    let code = coded(fields_in(head, e, banks, known)).err().unwrap_or(0);
     HeadFound { letter, code }
 }

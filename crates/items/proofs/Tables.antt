@@ -6,9 +6,8 @@ use mathlib.Core.List.{List}
 use Prim.Native.Nat.{ℕ}
 use Rattle.frame.specs.Machine.{earlier}
 use Rattle.base.specs.Bytes.{field}
-use Rattle.findings.specs.declared.Finding.{Finding}
-use Rattle.findings.specs.declared.Finding.TheVariants.{Right}
 use Rattle.items.specs.declared.item.ItemFindings.{ItemFindings}
+use Rattle.findings.specs.Findings.{Finding, Right}
 use Rattle.findings.specs.Codes.{Ü, T, Rule, always, digits_else, whole_code, item_code, first_whole, first_alone, either_code}
 use Rattle.findings.specs.Naming.{first_named}
 use Rattle.checked.specs.Checked.{due_found}

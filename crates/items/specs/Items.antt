@@ -5,8 +5,7 @@ use Rattle.std.specs.Prelude.{ℕ, Bool, cond, List, [], ◌∷◌, length, eqb}
 use Rattle.base.specs.Bytes.{ascii, field}
 use Rattle.account.specs.Account.{account_of}
 use Rattle.frame.specs.Records.{lengths}
-use Rattle.findings.specs.declared.Finding.{Finding}
-use Rattle.findings.specs.declared.Finding.TheVariants.{Right}
+use Rattle.findings.specs.Findings.{Finding, Right}
 use Rattle.findings.specs.declared.Answer.TheVariants as named
 use Rattle.findings.specs.Codes.{Ü, T, Rule, rule, always, digits_else}
 use Rattle.fields.specs.Fields.{mark_found, place_found, amount_of, filled_found}

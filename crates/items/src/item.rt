@@ -1,7 +1,6 @@
 // An item of a message of either kind: 1 is BESZED, any other number ATUTAL (002 sections 1.3.1 and 2.3.1).
-ghost use Rattle.std.specs.Prelude.{◌≡◌, cond, length};
+ghost use Rattle.std.specs.Prelude.{◌≡◌, cond};
 ghost use Rattle.lists.specs.Banks.{found_in};
-ghost use Rattle.frame.specs.Records.{lengths};
 ghost use Rattle.findings.specs.Codes.{first_whole, first_alone};
 ghost use Rattle.kinds.specs.Codes.{item_told};
 ghost use Rattle.items.specs.Items.{due_in, item_fields, item_findings, rules_of};
@@ -22,6 +21,21 @@ pub struct ItemFindings {
     pub owner: Finding,
 }
 
+// Nothing is found.
+const ALL_RIGHT: ItemFindings = ItemFindings {
+    mark: Ok(()),
+    number: Ok(()),
+    due: Ok(()),
+    amount: Amount {
+        value: 0,
+        found: Ok(()),
+    },
+    bank: Ok(()),
+    account: Ok(()),
+    customer: Ok(()),
+    owner: Ok(()),
+};
+
 // The due date of a BESZED; an ATUTAL has no rule there.
 fn due_in(s: &[u8], kind: u32, e: u32) -> Finding
     ensures { result ≡ due_in kind e s.now }
@@ -29,12 +43,11 @@ fn due_in(s: &[u8], kind: u32, e: u32) -> Finding
     if kind == kinds::BESZED {
         return checked::due_found(s, e);
     }
-    Finding::Right
+    Ok(())
 }
 
 // What is found in the fields of a whole item, by its place, the message's kind, E and the bank list.
-fn fields_in(r: &[u8], k: u64, kind: u32, e: u32, banks: &[u32]) -> ItemFindings
-    requires { length r.now ≡ lengths.item }
+fn fields_in(r: &[u8; frame::ITEM], k: u64, kind: u32, e: u32, banks: &[u32]) -> ItemFindings
     ensures { result ≡ item_fields kind e (found_in banks.now) k r.now }
 {
     ItemFindings {
@@ -50,56 +63,35 @@ fn fields_in(r: &[u8], k: u64, kind: u32, e: u32, banks: &[u32]) -> ItemFindings
 }
 
 // What is found in the fields of an item, by its place, the message's kind, E and the bank list; nothing in bytes of another length.
+#[tactic(auto, unfolding(crate::specs::Items::item_findings))]
 pub fn all_findings(r: &[u8], k: u64, kind: u32, e: u32, banks: &[u32]) -> ItemFindings
     ensures { result ≡ item_findings kind e (found_in banks.now) k r.now }
 {
-    if r.len() == frame::ITEM {
-        return fields_in(r, k, kind, e, banks);
-    }
-    ItemFindings {
-        mark: Finding::Right,
-        number: Finding::Right,
-        due: Finding::Right,
-        amount: Amount {
-            value: 0,
-            found: Finding::Right,
-        },
-        bank: Finding::Right,
-        account: Finding::Right,
-        customer: Finding::Right,
-        owner: Finding::Right,
-    }
+    let Ok(item) = <&[u8; frame::ITEM]>::try_from(r) else {
+        return ALL_RIGHT;
+    };
+    fields_in(item, k, kind, e, banks)
 }
 
 // The code of an item's first Ü fault: its type, then an amount that isn't digits.
 fn whole_of(f: ItemFindings) -> u8
     ensures { result ≡ first_whole (rules_of f) }
 {
-    let mark = f.mark;
-    let a = f.amount;
-    let amount = a.found;
-    ranked(mark, 46, ranked_else(amount, 34, 0, 0))
+    ranked(f.mark, 46, ranked_else(f.amount.found, 34, 0, 0))
 }
 
+// Kept: `ranked` a field in place of `?`: `?` is no plainer here, where two codes go by the kind of fault and one of these is none.
 // The code of an item's first T fault, fields in order; an amount that isn't digits has none.
 fn alone_of(f: ItemFindings) -> u8
     ensures { result ≡ first_alone (rules_of f) }
 {
-    let number = f.number;
-    let due = f.due;
-    let a = f.amount;
-    let amount = a.found;
-    let bank = f.bank;
-    let account = f.account;
-    let customer = f.customer;
-    let owner = f.owner;
-    let c = ranked(owner, 62, 0);
-    let c = ranked(customer, 63, c);
-    let c = ranked(account, 61, c);
-    let c = ranked(bank, 37, c);
-    let c = ranked_else(amount, 0, 16, c);
-    let c = ranked(due, 33, c);
-    ranked_else(number, 39, 32, c)
+    let c = ranked(f.owner, 62, 0);
+    let c = ranked(f.customer, 63, c);
+    let c = ranked(f.account, 61, c);
+    let c = ranked(f.bank, 37, c);
+    let c = ranked_else(f.amount.found, 0, 16, c);
+    let c = ranked(f.due, 33, c);
+    ranked_else(f.number, 39, 32, c)
 }
 
 // The code of an item: under a bar 14, in place of 0 too, else its own (002 section 1.3.1, note 4; 02, #105).
@@ -117,7 +109,7 @@ fn under_bar(barred: bool, code: u8) -> u8
 pub fn found_in(r: &[u8], k: u64, told: frame::Told, e: u32, banks: &[u32]) -> frame::Found
     ensures { result ≡ item_told told e (found_in banks.now) k r.now }
 {
-    if r.len() != frame::ITEM {
+    let Ok(item) = <&[u8; frame::ITEM]>::try_from(r) else {
         return frame::Found {
             letter: false,
             fault: 26,
@@ -125,14 +117,13 @@ pub fn found_in(r: &[u8], k: u64, told: frame::Told, e: u32, banks: &[u32]) -> f
             amount: 0,
             zero: false,
         };
-    }
-    let f = fields_in(r, k, told.kind as u32, e, banks);
-    let a = f.amount;
+    };
+    let f = fields_in(item, k, told.kind as u32, e, banks);
     frame::Found {
-        letter: !text::is_text(&r[50..frame::ITEM]),
+        letter: !text::is_text(&item[50..frame::ITEM]),
         fault: whole_of(f),
         code: under_bar(told.barred, alone_of(f)),
-        amount: a.value,
-        zero: account::is_zero(&r[34..50]),
+        amount: f.amount.value,
+        zero: account::is_zero(&item[34..50]),
     }
 }

@@ -5,20 +5,19 @@ use mathlib.Core.List.{List}
 use Prim.Native.Nat.{ℕ, ◌≤◌}
 use native.Mathlib.Omega.{arith}
 use lib.ListN.{length}
-use Rattle.lent.specs.Lent.{Lists, by}
-use Rattle.lent.specs.declared.Outcome.{Outcome}
-use Rattle.lent.specs.declared.Outcome.TheVariants.{Done, Refused}
+use Rattle.lent.specs.Lent.{Outcome, Lists, by}
+use Rattle.std.proofs.Common.{Ok, Err}
 use Rattle.frame.proofs.Kept.{id_kept}
 use Rattle.kinds.specs.Codes.{rules}
 use Rattle.judge.specs.declared.Session.{Session}
 use Rattle.judge.specs.Session.{state_of, session_of, give, piece_refused, lent_to, after, taken}
 
 -- where nothing is refused the next session is given
-moves : (s n : Session) (o : Outcome) → (by o (give Done n) (λ r. give (Refused r) s)).outcome ≡ Done → (by o (give Done n) (λ r. give (Refused r) s)).next ≡ n
-moves s n Done e = refl
-moves s n (Refused r) e = let z : ◌≡◌ {A = ℕ} 1 0 = cc in absurd (omega arith)
+moves : (s n : Session) (o : Outcome) → (by o (give (Ok tt) n) (λ r. give (Err r) s)).outcome ≡ Ok tt → (by o (give (Ok tt) n) (λ r. give (Err r) s)).next ≡ n
+moves s n (Ok tt) e = refl
+moves s n (Err r) e = let z : ◌≡◌ {A = ℕ} 1 0 = cc in absurd (omega arith)
 
-pub id_stays : (s : Session) (p : List ℕ) (l : Lists) (t : List ℕ) → (taken s p l t).outcome ≡ Done → 1 ≤ s.tally.phase
+pub id_stays : (s : Session) (p : List ℕ) (l : Lists) (t : List ℕ) → (taken s p l t).outcome ≡ Ok tt → 1 ≤ s.tally.phase
     → (taken s p l t).next.tally.id ≡ s.tally.id
 unfolding taken
 id_stays s p l t e q =

@@ -11,11 +11,10 @@ use lib.Dec.{leb, ltb, eqb}
 use borrow.Author.Tests.{leb-true, leb-false, ltb-true, eqb-true, le-leb, lt-leb, lt-ltb, eq-eqb}
 use Rattle.base.proofs.Every.{both}
 use Rattle.calendar.specs.Calendar.{is_date}
-use Rattle.lent.specs.Lent.{Lists, list_refused, by}
+use Rattle.lent.specs.Lent.{Outcome, Lists, list_refused, by}
 use Rattle.lent.specs.declared.Refusal.{Refusal}
 use Rattle.lent.specs.declared.Refusal.TheVariants as refusal
-use Rattle.lent.specs.declared.Outcome.{Outcome}
-use Rattle.lent.specs.declared.Outcome.TheVariants.{Done, Refused}
+use Rattle.std.proofs.Common.{Ok, Err}
 use Rattle.frame.specs.Records.{lengths, ended, is_foot}
 use Rattle.frame.specs.Verdict.{Rules}
 use Rattle.frame.specs.Sound.{Sound, CanTell, most_code, most_amount, most_kind}
@@ -261,7 +260,7 @@ kept_session s t e l =
     }
 
 -- no call yields a session outside the ranges
-pub open_passes : (e : ℕ) (t : List ℕ) → is_date e ≡ true → length t ≤ most → open_refused e t ≡ Done
+pub open_passes : (e : ℕ) (t : List ℕ) → is_date e ≡ true → length t ≤ most → open_refused e t ≡ Ok tt
 unfolding open_refused
 open_passes e t d l = rw (d, le-leb (length t) most l)
 
@@ -274,19 +273,19 @@ pub record Passes (s : Session) (n : ℕ) : Type 0 where
   pub in_range_lem : in_range s ≡ true
   pub room : n ≡ s.room
 
-pub piece_passes : (s : Session) (l : Lists) (n : ℕ) → piece_refused s l n ≡ Done → Passes s n
+pub piece_passes : (s : Session) (l : Lists) (n : ℕ) → piece_refused s l n ≡ Ok tt → Passes s n
 unfolding piece_refused
 piece_passes s l n = go (in_range s) refl (list_refused l) (eqb n s.room) refl
   where
-    never : {A : Type 0} (r : Refusal) → Refused r ≡ Done → A
+    never : {A : Type 0} (r : Refusal) → ◌≡◌ {A = Outcome} (Err r) (Ok tt) → A
     never r q = let z : ◌≡◌ {A = ℕ} 0 1 = cc in absurd (omega arith)
 
     go : (a : Bool) → in_range s ≡ a → (o : Outcome) (b : Bool) → eqb n s.room ≡ b
-        → cond a (by o (cond b Done (Refused refusal.Table)) Refused) (Refused refusal.Session) ≡ Done → Passes s n
+        → cond {A = Outcome} a (by o (cond b (Ok tt) (Err refusal.Table)) Err) (Err refusal.Session) ≡ Ok tt → Passes s n
     go false i o b j q = never refusal.Session q
-    go true i (Refused r) b j q = never r q
-    go true i Done false j q = never refusal.Table q
-    go true i Done true j q = record { in_range_lem = i; room = eqb-true n s.room j }
+    go true i (Err r) b j q = never r q
+    go true i (Ok u) false j q = never refusal.Table q
+    go true i (Ok u) true j q = record { in_range_lem = i; room = eqb-true n s.room j }
 
 pub taken_in_range : (s : Session) (p : List ℕ) (l : Lists) (t : List ℕ) → in_range s ≡ true → in_range (taken s p l t).next ≡ true
 unfolding taken
@@ -295,9 +294,9 @@ taken_in_range s p l t e = go (piece_refused s l (length t)) refl
     n : Session
     n = session_of s.day s.room (after s p l t)
 
-    go : (o : Outcome) → piece_refused s l (length t) ≡ o → in_range (by o (give Done n) (λ r. give (Refused r) s)).next ≡ true
-    go (Refused r) q = e
-    go Done q =
+    go : (o : Outcome) → piece_refused s l (length t) ≡ o → in_range (by o (give (Ok tt) n) (λ r. give (Err r) s)).next ≡ true
+    go (Err r) q = e
+    go (Ok tt) q =
         let k = kept_session s t e (piece_passes s l (length t) q).room in
         let k' = kept_run (rules (lent_to s l)) (sound (lent_to s l)) s.room (state_of s t) p k in
         session_in_range s.day s.room (after s p l t) k' (ranged s e).day

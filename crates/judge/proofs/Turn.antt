@@ -4,17 +4,16 @@ use mathlib.Core.Path.{◌≡◌, refl, sym, ap, ap₂, ◌∙◌}
 use mathlib.Core.Bool.{Bool, true, false}
 use mathlib.Core.List.{List, [], ◌∷◌, ◌++◌}
 use Prim.Native.Nat.{ℕ, ◌+◌, ◌-◌, ◌≤◌, ◌<◌}
-use native.Mathlib.Nat.{sub_self}
 use native.Mathlib.Numerals.{add-one}
 use native.Mathlib.Omega.{arith}
-use lib.ListN.{length, get_or, take, drop, set, length-append, length-drop, length-set, take-append-drop}
-use lib.Seq.{length-take-le, take-add, take-set-le, take-suc-set, get_or-take, drop-cons, drop-drop, append_snoc}
+use lib.ListN.{length, get_or, take, drop, set, length-append, length-set, take-append-drop}
+use lib.Seq.{length-take-le, take-set-le, take-suc-set, get_or-take, drop-cons, append_snoc}
 use lib.Dec.{leb, eqb}
 use borrow.Author.Tests.{leb-true, leb-false, eqb-true, eqb-false}
 use borrow.Rule.Slice.PartMut.{put_mid}
+use Rattle.std.specs.List.{IsSplitAt}
 use Rattle.base.specs.Bytes.{over}
 use Rattle.base.proofs.Over.{length_over}
-use Rattle.base.proofs.Parts.{tail}
 use Rattle.text.specs.Text.{with_bytes}
 use Rattle.text.proofs.At.{put_at_lem}
 use Rattle.frame.specs.Verdict.{Rules}
@@ -23,107 +22,39 @@ use Rattle.frame.specs.Machine.{State, phased, at, size, item_counted, head_read
 use Rattle.frame.proofs.Pieces.{run_append, run_exact, run_kept, run_whole, size_front, size_seen, run_broken, run_overflown, run_after}
 use Rattle.frame.specs.declared.Tally.{Tally}
 use Rattle.judge.specs.declared.Left.{Left}
-use Rattle.judge.specs.declared.Walked.{Walked}
 use Rattle.judge.specs.Session.{longest, pad, state_with}
-use Rattle.judge.specs.Inner.{Ready, Read, Fit, Partial, Became, EndedAs, WalkedOf}
+use Rattle.judge.specs.Inner.{Ready, Read, Fit, Became, EndedAs}
 use Rattle.judge.proofs.Held.{over_front, size_least, size_most}
 use Rattle.judge.proofs.Valid.{Valid, read_ready, read_state, valid_judged, judged_none}
 
-module _ (R : Rules) (ok : Sound R) where
-  -- whole records, one after the other
-  pub record Walk (s₀ : State) (x : List ℕ) (k : ℕ) (c : Tally) (t : List ℕ) : Type 0 where
-    pub within : k ≤ length x
-    pub reads : Read (run R s₀ (take k x)) c t
-    pub none : (run R s₀ (take k x)).held ≡ []
-    pub valid : Valid (run R s₀ (take k x))
-
-  pub walk_start : (c : Tally) (t x : List ℕ) → Ready c t → Walk (state_with c [] t) x 0 c t
-  unfolding run
-  walk_start c t x r = record { within = omega arith; reads = record { tally = refl; bytes = refl }; none = refl; valid = r }
-
-  pub walk_first : (c : Tally) (t x : List ℕ) (from : ℕ) → Ready c t → Walk (state_with c [] t) x (from - from) c t
-  walk_first c t x from r = rw (sub_self from) (walk_start c t x r)
-
-  module _ (s₀ : State) (x : List ℕ) (k : ℕ) (c : Tally) (t : List ℕ) (w : Walk s₀ x k c t) where
-    walk_state : state_with c [] t ≡ run R s₀ (take k x)
-    walk_state = read_state (run R s₀ (take k x)) c t w.reads w.none
-
-    walk_phase : (run R s₀ (take k x)).tally.phase ≡ c.phase
-    walk_phase = sym (ap (λ (a : Tally). a.phase) w.reads.tally)
-
-    pub walk_ready : Ready c t
-    walk_ready = read_ready (run R s₀ (take k x)) c t w.valid w.reads
-
-    module _ (n : ℕ) (p : c.phase ≤ 1) (e₁ : n ≡ size c.phase (drop k x)) (l : n ≤ length (drop k x)) where
-      y : List ℕ
-      y = take n (drop k x)
-
-      long : length y ≡ n
-      unfolding y
-      long = length-take-le n (drop k x) l
-
-      two : 2 ≤ n
-      two = omega (arith, size_least c.phase (drop k x))
-
-      fits : length y ≡ size (run R s₀ (take k x)).tally.phase y
-      unfolding y
-      fits = long ∙ e₁ ∙ sym (ap (λ (q : ℕ). size q y) walk_phase ∙ size_front c.phase n (drop k x) two l)
-
-      judges : run R s₀ (take (k + n) x) ≡ judged R (state_with c [] t) y
-      unfolding y
-      judges =
-          ap (run R s₀) (take-add k n x)
-          ∙ run_append R s₀ (take k x) y
-          ∙ run_exact R (run R s₀ (take k x)) y (omega (arith, walk_phase)) w.none fits (omega (arith, long, two))
-          ∙ ap (λ (q : State). judged R q y) (sym walk_state)
-
-      pub walk_on : (c' : Tally) (t' : List ℕ) → Read (judged R (state_with c [] t) (take n (drop k x))) c' t' → Walk s₀ x (k + n) c' t'
-      unfolding y
-      walk_on c' t' r =
-          record {
-            within = omega (arith, w.within, length-drop k x);
-            reads = rw judges r;
-            none = rw judges (judged_none R (state_with c [] t) y);
-            valid = rw judges (valid_judged (state_with c [] t) walk_ready R ok y);
-          }
+-- whole records at the front of x were judged: to read what is left is to read x
+pub record Walk (R : Rules) (s : State) (x y : List ℕ) (c : Tally) (t : List ℕ) : Type 0 where
+  pub reads : run R s x ≡ run R (state_with c [] t) y
+  pub ready : Ready c t
 
 -- a turn of the walk over a piece
-module _ (R : Rules) (ok : Sound R) (s₀ : State) (piece : List ℕ) (from i : ℕ) (c : Tally) (t : List ℕ) (h : from ≤ i) (k : i ≤ length piece)
-    (w : Walk R ok s₀ (drop from piece) (i - from) c t) where
-  left_at : drop (i - from) (drop from piece) ≡ drop i piece
-  left_at =
-      let q : from + (i - from) ≡ i = omega arith in
-      drop-drop (i - from) from piece ∙ ap (λ (n : ℕ). drop n piece) q
+module _ {R : Rules} {s : State} {x y : List ℕ} {c : Tally} {t : List ℕ} (w : Walk R s x y c t) (p : c.phase ≤ 1)
+    {m : ℕ} (q : m ≡ size c.phase y) {r z : List ℕ} (d : IsSplitAt y m r z) where
+  pub turn_least : 2 ≤ m
+  turn_least = omega (arith, q, size_least c.phase y)
 
-  part_is : (n : ℕ) → take (i + n - i) (drop i piece) ≡ take n (drop (i - from) (drop from piece))
-  part_is n =
-      let q : i + n - i ≡ n = omega arith in
-      ap (λ (m : ℕ). take m (drop i piece)) q ∙ ap (take n) (sym left_at)
+  -- the part is a whole record
+  pub turn_whole : length r ≡ size c.phase r
+  turn_whole = d.3 ∙ q ∙ sym (ap (size c.phase) d.1 ∙ size_front c.phase m y turn_least d.0)
 
-  module _ (n : ℕ) (q : n ≡ size c.phase (take (length piece - i) (drop i piece))) where
-    shown : n ≡ size c.phase (drop (i - from) (drop from piece))
-    shown = q ∙ ap (size c.phase) (tail piece i ∙ sym left_at)
-
-    -- what is left isn't a whole record
-    pub turn_ends : length piece - i < n → length (drop (i - from) (drop from piece)) < size c.phase (drop (i - from) (drop from piece))
-    turn_ends m = omega (arith, shown, ap length left_at, length-drop i piece)
-
-    module _ (p : c.phase ≤ 1) (m : n ≤ length piece - i) where
-      room : n ≤ length (drop (i - from) (drop from piece))
-      room = omega (arith, ap length left_at, length-drop i piece)
-
-      -- the part is a whole record
-      pub turn_whole : length (take (i + n - i) (drop i piece)) ≡ size c.phase (take (i + n - i) (drop i piece))
-      turn_whole =
-          let y = drop (i - from) (drop from piece) in
-          rw (part_is n) (length-take-le n y room ∙ shown ∙ sym (size_front c.phase n y (omega (arith, size_least c.phase y, shown)) room))
-
-      pub turn_on : {c' : Tally} {t' : List ℕ} → Read (judged R (state_with c [] t) (take (i + n - i) (drop i piece))) c' t'
-          → Walk R ok s₀ (drop from piece) (i + n - from) c' t'
-      turn_on {c'} {t'} r =
-          let z : i - from + n ≡ i + n - from = omega arith in
-          let r' : Read (judged R (state_with c [] t) (take n (drop (i - from) (drop from piece)))) c' t' = rw (part_is n) at r in
-          rw z at (walk_on R ok s₀ (drop from piece) (i - from) c t w n p shown room c' t' r')
+  pub turn_on : (ok : Sound R) {c' : Tally} {t' : List ℕ} → Read (judged R (state_with c [] t) r) c' t' → Walk R s x z c' t'
+  turn_on ok {c'} {t'} k =
+      let s₁ = state_with c [] t in
+      let e : y ≡ r ++ z = sym (ap₂ (λ (a b : List ℕ). a ++ b) d.1 d.2 ∙ take-append-drop m y) in
+      let j : run R s₁ r ≡ judged R s₁ r = run_exact R s₁ r p refl turn_whole (omega (arith, d.3, turn_least)) in
+      record {
+        reads =
+            w.reads
+            ∙ ap (run R s₁) e
+            ∙ run_append R s₁ r z
+            ∙ ap (λ (a : State). run R a z) (j ∙ sym (read_state (judged R s₁ r) c' t' k (judged_none R s₁ r)));
+        ready = read_ready (judged R s₁ r) c' t' (valid_judged s₁ w.ready R ok r) k;
+      }
 
 -- what is left of a piece, after its whole records
 module _ (c : Tally) (h : List ℕ) where
@@ -175,31 +106,6 @@ module _ (c : Tally) (h : List ℕ) where
             let i : c.phase ≡ 4 = omega (arith, eqb-false c.phase 3 w) in
             still y (λ R t. stays R t 4 i (run_overflown R (state_with c [] t) y))
 
--- from a place of the piece on
-module _ (R : Rules) (c : Tally) (t piece : List ℕ) (from : ℕ) (w : Walked) (t' : List ℕ)
-    (k : WalkedOf R c (drop from piece) from t w t') where
-  here : drop (w.at - from) (drop from piece) ≡ take (length piece - w.at) (drop w.at piece)
-  here =
-      let q : from + (w.at - from) ≡ w.at = omega (arith, k.past) in
-      drop-drop (w.at - from) from piece ∙ ap (λ (n : ℕ). drop n piece) q ∙ sym (tail piece w.at)
-
-  pub onward_partial : Partial w.tally (take (length piece - w.at) (drop w.at piece))
-  onward_partial = record { phase = k.ready.phase; early = λ p. rw here at (k.rest p) }
-
-  pub onward_became : {l : Left} {h : List ℕ} → EndedAs w.tally (take (length piece - w.at) (drop w.at piece)) l h
-      → Became (run R (state_with c [] t) (drop from piece)) l h t'
-  onward_became {l} {h} r =
-      let x = drop from piece in
-      let n = w.at - from in
-      let s₁ = run R (state_with c [] t) (take n x) in
-      let y = take (length piece - w.at) (drop w.at piece) in
-      let split : run R (state_with c [] t) x ≡ run R (state_with w.tally [] t') y =
-      sym (ap (run R (state_with c [] t)) (take-append-drop n x))
-      ∙ run_append R (state_with c [] t) (take n x) (drop n x)
-      ∙ ap (run R s₁) here
-      ∙ ap (λ (a : State). run R a y) (sym (read_state s₁ w.tally t' k.reads k.none)) in
-      rw split (r.became R t')
-
 -- a record of which something is held is judged with its last byte
 run_all : (R : Rules) (s : State) (h y : List ℕ) → s.tally.phase ≤ 1 → s.held ≡ h → 0 < length y → length (h ++ y) ≡ size s.tally.phase (h ++ y)
     → run R s y ≡ judged R s (h ++ y)
@@ -229,7 +135,7 @@ pub record Put (c : Tally) (n : ℕ) (h t : List ℕ) (b w : ℕ) (y : List ℕ)
   pub more : 0 < k
   pub first : get_or y 0 0 ≡ b
   pub within : n + k ≤ w
-  pub bytes : ys ≡ with_bytes (take (length (set h n b) - n) (drop n (set h n b))) y
+  pub bytes : ys ≡ with_bytes (take (longest - n) (drop n (set h n b))) y
 
 module _ {c : Tally} {n : ℕ} {h t : List ℕ} (d : Begun c n h t) where
   begun_early : c.phase ≤ 1
@@ -284,7 +190,7 @@ module _ {c : Tally} {n : ℕ} {h t : List ℕ} {b w : ℕ} {y : List ℕ} {k : 
   g = take n h
 
   abbrev h₂ : List ℕ
-  h₂ = put_mid n (length (set h n b) - n) (set h n b) ys
+  h₂ = put_mid n (longest - n) (set h n b) ys
 
   joined_length : length (g ++ y) ≡ n + k
   joined_length = length-append g y ∙ ap₂ (λ (i j : ℕ). i + j) (begun_length d.shown.begun) d.count
@@ -305,7 +211,9 @@ module _ {c : Tally} {n : ℕ} {h t : List ℕ} {b w : ℕ} {y : List ℕ} {k : 
   put_room = omega (arith, put_most, d.count, set_long d.shown)
 
   put_is : h₂ ≡ over (set h n b) n y
-  put_is = put_at_lem (set h n b) n y ys put_room d.bytes
+  put_is =
+      let l : length (set h n b) - n ≡ longest - n = ap (λ (m : ℕ). m - n) (set_long d.shown) in
+      rw l at (put_at_lem (set h n b) n y ys put_room (rw l d.bytes))
 
   pub put_long : length h₂ ≡ longest
   put_long = ap length put_is ∙ length_over (set h n b) n y put_room ∙ set_long d.shown
@@ -371,10 +279,10 @@ module _ {c : Tally} {n : ℕ} {h t : List ℕ} {b w : ℕ} (d : Shown c n h t b
 
   module _ (piece : List ℕ) (i : get_or piece 0 0 ≡ b) where
     pub short_put : (length piece ≡ 0 → ⊥) → length piece < w - n → {ys : List ℕ}
-        → ys ≡ with_bytes (take (length (set h n b) - n) (drop n (set h n b))) piece → Put c n h t b w piece (length piece) ys
+        → ys ≡ with_bytes (take (longest - n) (drop n (set h n b))) piece → Put c n h t b w piece (length piece) ys
     short_put z m q = record { shown = d; count = refl; more = omega (arith, z); first = i; within = omega (arith, lacks d); bytes = q }
 
-    pub long_put : w - n ≤ length piece → {ys : List ℕ} → ys ≡ with_bytes (take (length (set h n b) - n) (drop n (set h n b))) (take (w - n) piece)
+    pub long_put : w - n ≤ length piece → {ys : List ℕ} → ys ≡ with_bytes (take (longest - n) (drop n (set h n b))) (take (w - n) piece)
         → Put c n h t b w (take (w - n) piece) (w - n) ys
     long_put m q =
         let some : 0 < w - n = omega (arith, lacks d) in
@@ -387,9 +295,9 @@ module _ {c : Tally} {n : ℕ} {h t : List ℕ} {b w : ℕ} (d : Shown c n h t b
           bytes = q;
         }
 
-    pub long_became : (m : w - n ≤ length piece) {ys : List ℕ} (q : ys ≡ with_bytes (take (length (set h n b) - n) (drop n (set h n b))) (take (w - n) piece))
+    pub long_became : (m : w - n ≤ length piece) {ys : List ℕ} (q : ys ≡ with_bytes (take (longest - n) (drop n (set h n b))) (take (w - n) piece))
         (R : Rules) (ok : Sound R) {c' : Tally} {t' : List ℕ}
-        → Read (judged R (state_with c [] t) (take (n + (w - n)) (put_mid n (length (set h n b) - n) (set h n b) ys))) c' t'
+        → Read (judged R (state_with c [] t) (take (n + (w - n)) (put_mid n (longest - n) (set h n b) ys))) c' t'
         → {l : Left} {h' t'' : List ℕ} → Became (run R (state_with c' [] t') (drop (w - n) piece)) l h' t''
         → Became (run R (state_with c (take n h) t) piece) l h' t''
     long_became m q R ok r v =

@@ -1,6 +1,6 @@
 -- What the inner functions of a session ask and give.
 -- Assumes nothing.
-use Rattle.std.specs.Prelude.{ℕ, ◌-◌, ◌*◌, ◌≤◌, ◌<◌, ◌≡◌, List, [], length, take, drop}
+use Rattle.std.specs.Prelude.{ℕ, ◌*◌, ◌≤◌, ◌<◌, ◌≡◌, List, [], length, take}
 use Rattle.lent.specs.Lent.{Lent}
 use Rattle.frame.specs.declared.Found.{Found}
 use Rattle.frame.specs.declared.Tally.{Tally}
@@ -72,11 +72,8 @@ pub record Partial (c : Tally) (x : List ℕ) : Type 0 where
 pub record EndedAs (c : Tally) (x : List ℕ) (l : Left) (h : List ℕ) : Type 0 where
   pub became : (R : Rules) (t : List ℕ) → Became (run R (state_with c [] t) x) l h t
 
--- from a place on, whole records are judged, and what is left of the piece is none
-pub record WalkedOf (R : Rules) (c : Tally) (p : List ℕ) (from : ℕ) (t : List ℕ) (w : Walked) (t' : List ℕ) : Type 0 where
-  pub past : from ≤ w.at
-  pub within : w.at - from ≤ length p
-  pub reads : Read (run R (state_with c [] t) (take (w.at - from) p)) w.tally t'
-  pub none : (run R (state_with c [] t) (take (w.at - from) p)).held ≡ []
+-- whole records of p are judged, and what is left of it begins none; to read that is to read p
+pub record WalkedOf (R : Rules) (c : Tally) (p t : List ℕ) (w : Walked) (t' : List ℕ) : Type 0 where
+  pub reads : run R (state_with c [] t) p ≡ run R (state_with w.tally [] t') w.rest.now
   pub ready : Ready w.tally t'
-  pub rest : w.tally.phase ≤ 1 → length (drop (w.at - from) p) < size w.tally.phase (drop (w.at - from) p)
+  pub early : w.tally.phase ≤ 1 → length w.rest.now < size w.tally.phase w.rest.now

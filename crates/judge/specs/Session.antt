@@ -1,17 +1,15 @@
 -- A session as a value, the state that it stands for, its ranges, and what opening, taking a piece and closing give
 -- (01, Calls and their answers).
 -- Assumes nothing.
-use Rattle.std.specs.Prelude.{ℕ, ◌-◌, ◌*◌, ◌≡◌, Bool, cond, ◌&&◌, List, ◌++◌, length, take, replicate, leb, ltb, eqb}
+use Rattle.std.specs.Prelude.{ℕ, ◌-◌, ◌*◌, ◌≡◌, Bool, cond, ◌&&◌, List, ◌++◌, length, take, replicate, leb, ltb, eqb, Result, Ok, Err}
 use Rattle.calendar.specs.Calendar.{is_date}
-use Rattle.lent.specs.Lent.{Lists, Lent, list_refused, by}
+use Rattle.lent.specs.Lent.{Outcome, Lists, Lent, list_refused, by}
 use Rattle.lent.specs.declared.Refusal.{Refusal}
 use Rattle.lent.specs.declared.Refusal.TheVariants as refusal
-use Rattle.lent.specs.declared.Outcome.{Outcome}
-use Rattle.lent.specs.declared.Outcome.TheVariants.{Done, Refused}
 use Rattle.frame.specs.declared.Tally.{Tally}
 use Rattle.frame.specs.declared.Closing.{Closing}
-use Rattle.frame.specs.Records.{item_end, no_id}
-use Rattle.frame.specs.Verdict.{Verdict, verdict, table_after, blank}
+use Rattle.frame.specs.Records.{item_end}
+use Rattle.frame.specs.Verdict.{Verdict, verdict, table_after}
 use Rattle.frame.specs.Machine.{State, unread, phased, fresh, items, size, run, closing}
 use Rattle.frame.specs.Sound.{most_code, most_amount, most_kind}
 use Rattle.kinds.specs.Codes.{rules}
@@ -19,7 +17,6 @@ use Rattle.judge.specs.declared.Session.{Session}
 use Rattle.judge.specs.declared.Taken.{Taken}
 use Rattle.judge.specs.declared.Step.{Step}
 use Rattle.judge.specs.declared.Closed.{Closed}
-use Rattle.judge.specs.declared.Judged.{Judged}
 
 -- a code table has at most so many bytes
 abbrev pub most : ℕ
@@ -74,17 +71,17 @@ give o s = record { outcome = o; next = s }
 
 -- opening: refusals 1, 4
 unfoldable pub open_refused : ℕ → List ℕ → Outcome
-open_refused e t = cond (is_date e) (cond (leb (length t) most) Done (Refused refusal.Table)) (Refused refusal.NotADay)
+open_refused e t = cond (is_date e) (cond (leb (length t) most) (Ok tt) (Err refusal.Table)) (Err refusal.NotADay)
 
 unfoldable pub opened : ℕ → List ℕ → Taken
-opened e t = by (open_refused e t) (give Done (session_of e (length t) (fresh t))) (λ r. give (Refused r) closed_session)
+opened e t = by (open_refused e t) (give (Ok tt) (session_of e (length t) (fresh t))) (λ r. give (Err r) closed_session)
 
 -- a piece, beside a table of so many bytes: refusals 5, 2, 3, 15, 4
 unfoldable pub piece_refused : Session → Lists → ℕ → Outcome
 piece_refused s l n =
     cond (in_range s)
-    (by (list_refused l) (cond (eqb n s.room) Done (Refused refusal.Table)) Refused)
-    (Refused refusal.Session)
+    (by (list_refused l) (cond (eqb n s.room) (Ok tt) (Err refusal.Table)) Err)
+    (Err refusal.Session)
 
 -- what is lent to the judging of a piece: the session's day, and the lists
 abbrev pub lent_to : Session → Lists → Lent
@@ -98,8 +95,8 @@ after s p l t = run (rules (lent_to s l)) (state_of s t) p
 unfoldable pub taken : Session → List ℕ → Lists → List ℕ → Taken
 taken s p l t =
     by (piece_refused s l (length t))
-    (give Done (session_of s.day s.room (after s p l t)))
-    (λ r. give (Refused r) s)
+    (give (Ok tt) (session_of s.day s.room (after s p l t)))
+    (λ r. give (Err r) s)
 
 unfoldable pub table_taken : Session → List ℕ → Lists → List ℕ → List ℕ
 table_taken s p l t = by (piece_refused s l (length t)) (after s p l t).table (λ r. t)
@@ -114,13 +111,13 @@ parts_of e room c fill h = record { day = e; room = room; tally = c; fill = fill
 
 -- with memory lent for the bytes held; that of another size is no session's
 unfoldable pub parts_refused : Session → Lists → ℕ → Outcome
-parts_refused s l n = cond (eqb (length s.held) longest) (piece_refused s l n) (Refused refusal.Session)
+parts_refused s l n = cond (eqb (length s.held) longest) (piece_refused s l n) (Err refusal.Session)
 
 unfoldable pub stepped : Session → List ℕ → Lists → List ℕ → Taken
 stepped s p l t =
     by (parts_refused s l (length t))
-    (give Done (session_of s.day s.room (after s p l t)))
-    (λ r. give (Refused r) s)
+    (give (Ok tt) (session_of s.day s.room (after s p l t)))
+    (λ r. give (Err r) s)
 
 unfoldable pub table_stepped : Session → List ℕ → Lists → List ℕ → List ℕ
 table_stepped s p l t = by (parts_refused s l (length t)) (after s p l t).table (λ r. t)
@@ -130,43 +127,29 @@ pub record Stepped (e room : ℕ) (c : Tally) (fill : ℕ) (h p : List ℕ) (l :
   pub result : give r.outcome (parts_of e room r.tally r.fill h') ≡ stepped (parts_of e room c fill h) p l t
   pub bytes : t' ≡ table_stepped (parts_of e room c fill h) p l t
 
--- kind 0, the five numbers at 0, and spaces
-abbrev pub no_closing : Closing
-no_closing = blank 0 0 no_id
-
--- a verdict is given, or overflow is refused
-abbrev pub outcome_of : Verdict → Outcome
-outcome_of v = cond (eqb v.refusal 0) Done (Refused refusal.Overflow)
+-- the closing of a verdict, or overflow
+abbrev pub closing_of : Verdict → Result Closing Refusal
+closing_of v = cond (eqb v.refusal 0) (Ok v.closing) (Err refusal.Overflow)
 
 -- what closing gives for a verdict
 abbrev pub closed_as : Verdict → Closed
-closed_as v = record { outcome = outcome_of v; closing = v.closing; next = closed_session }
+closed_as v = record { closing = closing_of v; next = closed_session }
 
 -- closing: refusals 5, 6
 unfoldable pub closed_of : Session → Closed
-closed_of s =
-    cond (in_range s)
-    (closed_as (closing s.tally))
-    (record { outcome = Refused refusal.Session; closing = no_closing; next = s })
-
--- a refusal, with no numbers
-abbrev pub refused_as : Refusal → Judged
-refused_as r = record { outcome = Refused r; closing = no_closing }
+closed_of s = cond (in_range s) (closed_as (closing s.tally)) (record { closing = Err refusal.Session; next = s })
 
 -- a whole message: refusals 1, 4, 2, 3, 15
 unfoldable pub whole_refused : Lent → List ℕ → Outcome
-whole_refused l t = by (open_refused l.day t) (list_refused l.lists) Refused
+whole_refused l t = by (open_refused l.day t) (list_refused l.lists) Err
 
 -- judging it: then 6, and the verdict of the uncut message
-unfoldable pub judged_of : Lent → List ℕ → List ℕ → Judged
-judged_of l t m =
-    by (whole_refused l t)
-    (record { outcome = outcome_of (verdict (rules l) t m); closing = (verdict (rules l) t m).closing })
-    refused_as
+unfoldable pub judged_of : Lent → List ℕ → List ℕ → Result Closing Refusal
+judged_of l t m = by (whole_refused l t) (closing_of (verdict (rules l) t m)) Err
 
 unfoldable pub table_judged : Lent → List ℕ → List ℕ → List ℕ
 table_judged l t m = by (whole_refused l t) (table_after (rules l) t m) (λ r. t)
 
-pub record JudgedAs (l : Lent) (t m : List ℕ) (r : Judged) (t' : List ℕ) : Type 0 where
+pub record JudgedAs (l : Lent) (t m : List ℕ) (r : Result Closing Refusal) (t' : List ℕ) : Type 0 where
   pub result : r ≡ judged_of l t m
   pub bytes : t' ≡ table_judged l t m

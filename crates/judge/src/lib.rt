@@ -3,7 +3,7 @@
 #![tactic(auto)]
 
 ghost use Rattle.std.specs.Prelude.{◌≡◌, cond, [], ◌+◌, ◌≤◌, ◌<◌, length, take, drop};
-ghost use Rattle.lent.specs.Lent.{listed, lent};
+ghost use Rattle.lent.specs.Lent.{listed_in, lent_in};
 ghost use Rattle.frame.specs.Verdict.{blank};
 ghost use Rattle.frame.specs.Sound.{most_kind};
 ghost use Rattle.frame.specs.Machine.{unread, phased, more, item_tally, size, head_tally, judged, run, closing};
@@ -20,14 +20,14 @@ ghost use Rattle.judge.specs.Session.{
   opened,
   Took,
   parts_of,
-  parts_refused,
+  piece_refused,
   Stepped,
   closed_of,
 };
 ghost use Rattle.judge.specs.Inner.{Ready, Countable, Summed, ItemRead, FootRead, Read, Fit, Partial, Became, EndedAs, WalkedOf};
 
 use frame::{Closing, Tally, Told, Totals};
-use lent::{Outcome, Refusal};
+use lent::{Lists, Refusal};
 
 // A session: the clearing day, the table's length, what was counted, and the bytes of the record begun with zeros after them.
 #[derive(Clone, Copy)]
@@ -42,7 +42,7 @@ pub struct Session {
 // What a call that takes or opens a session gives back.
 #[derive(Clone, Copy)]
 pub struct Taken {
-    pub outcome: Outcome,
+    pub outcome: Result<(), Refusal>,
     pub next: Session,
 }
 
@@ -51,27 +51,20 @@ pub struct Taken {
 pub struct Step {
     pub tally: Tally,
     pub fill: usize,
-    pub outcome: Outcome,
+    pub outcome: Result<(), Refusal>,
 }
 
-// What closing a session gives.
+// What closing a session gives: the verdict or why there is none, and the session to use next.
 #[derive(Clone, Copy)]
 pub struct Closed {
-    pub outcome: Outcome,
-    pub closing: Closing,
+    pub closing: Result<Closing, Refusal>,
     pub next: Session,
-}
-
-// What judging a whole message gives (`message::judge`).
-#[derive(Clone, Copy)]
-pub struct Judged {
-    pub outcome: Outcome,
-    pub closing: Closing,
 }
 
 // The most that an amount of ten digits can be.
 const AMOUNT: u64 = 9999999999;
 
+// Kept: a number for the phase, here and below: a `Tally` has it so, and `in_range` refuses one over 4 (refusal 5).
 // The length, with its ending, of the record that begins with x, or of the head.
 fn size_of(phase: u8, x: &[u8]) -> usize
     ensures { result ≡ size phase x.now }
@@ -90,13 +83,13 @@ fn more(yes: bool, amount: u64, t: Totals) -> Totals
     requires { (t.count < 1000000) × (t.sum + amount < 18446744073709551616) }
     ensures { result ≡ more yes amount t }
 {
-    if yes {
-        return Totals {
-            count: t.count + 1,
-            sum: t.sum + amount,
-        };
+    if !yes {
+        return t;
     }
-    t
+    Totals {
+        count: t.count + 1,
+        sum: t.sum + amount,
+    }
 }
 
 // One more, if so.
@@ -104,27 +97,23 @@ fn one_more(n: u64, yes: bool) -> u64
     requires { n < 1000000 }
     ensures { result ≡ n + cond yes 1 0 }
 {
-    if yes {
-        return n + 1;
-    }
-    n
+    if yes { n + 1 } else { n }
 }
 
 // Nothing is read yet; the phase says whether a session is open.
 fn unread(phase: u8) -> Tally
     ensures { result ≡ phased phase unread }
 {
-    let none = Totals { count: 0, sum: 0 };
     Tally {
-        phase: phase,
+        phase,
         told: Told {
             kind: 0,
             barred: false,
         },
         letter: false,
         code: 0,
-        accepted: none,
-        refused: none,
+        accepted: Totals { count: 0, sum: 0 },
+        refused: Totals { count: 0, sum: 0 },
         zeros: 0,
         id: [b' '; 25],
     }
@@ -134,9 +123,7 @@ fn unread(phase: u8) -> Tally
 fn phased(phase: u8, tally: Tally) -> Tally
     ensures { result ≡ phased phase tally }
 {
-    let mut t = tally;
-    t.phase = phase;
-    t
+    Tally { phase, ..tally }
 }
 
 // The most that a kind's number is; under a bar, of which only ATUTAL knows, it is ATUTAL's.
@@ -150,56 +137,50 @@ fn most_kind(barred: bool) -> u8
 }
 
 // Each number of a tally is in its range, for a table of so many bytes.
+#[tactic(auto, unfolding(crate::specs::Session::tally_in_range))]
 fn tally_in_range(room: usize, t: Tally) -> bool
     requires { room ≤ most }
     ensures { result ≡ tally_in_range room t }
 {
-    let a = t.accepted;
-    let r = t.refused;
-    let told = t.told;
     if t.phase > 4 {
         return false;
     }
-    if told.kind > most_kind(told.barred) {
+    if t.told.kind > most_kind(t.told.barred) {
         return false;
     }
     if t.code > 99 {
         return false;
     }
-    if a.count > Session::MOST as u64 {
+    if t.accepted.count > Session::MOST as u64 {
         return false;
     }
-    if r.count > Session::MOST as u64 {
+    if t.refused.count > Session::MOST as u64 {
         return false;
     }
-    if a.count + r.count > room as u64 {
+    if t.accepted.count + t.refused.count > room as u64 {
         return false;
     }
-    if a.sum > AMOUNT * a.count {
+    if t.accepted.sum > AMOUNT * t.accepted.count {
         return false;
     }
-    if r.sum > AMOUNT * r.count {
+    if t.refused.sum > AMOUNT * t.refused.count {
         return false;
     }
-    t.zeros <= a.count
+    t.zeros <= t.accepted.count
 }
 
 // The head is read, without the ending: the rules of its message say what is found in it and what it tells.
-fn head_read(tally: Tally, r: &[u8], day: u32, banks: &[u32], known: &[u8], barred: &[u32]) -> Tally
-    ensures { result ≡ head_tally (rules (lent day banks.now known.now barred.now)) tally r.now }
+fn head_read(tally: Tally, r: &[u8], day: u32, lists: &Lists) -> Tally
+    ensures { result ≡ head_tally (rules (lent_in day lists.now)) tally r.now }
 {
-    let f = heads::found_in(r, day, banks, known);
-    let a = tally.accepted;
-    let b = tally.refused;
+    let f = heads::found_in(r, day, lists.banks, lists.known);
     Tally {
         phase: 1,
-        told: heads::told_of(r, barred),
+        told: heads::told_of(r, lists.barred),
         letter: f.letter,
         code: f.code,
-        accepted: a,
-        refused: b,
-        zeros: tally.zeros,
         id: frame::identifier(r),
+        ..tally
     }
 }
 
@@ -208,17 +189,16 @@ fn counted(tally: Tally, f: frame::Found) -> Tally
     requires { Countable tally f }
     ensures { result ≡ item_tally tally f }
 {
-    let a = tally.accepted;
-    let b = tally.refused;
     let accepted = f.code == 0;
-    let mut t = tally;
-    t.phase = 1;
-    t.letter = tally.letter | f.letter;
-    t.code = findings::earlier(tally.code, f.fault);
-    t.accepted = more(accepted, f.amount, a);
-    t.refused = more(!accepted, f.amount, b);
-    t.zeros = one_more(tally.zeros, accepted & f.zero);
-    t
+    Tally {
+        phase: 1,
+        letter: tally.letter | f.letter,
+        code: findings::earlier(tally.code, f.fault),
+        accepted: more(accepted, f.amount, tally.accepted),
+        refused: more(!accepted, f.amount, tally.refused),
+        zeros: one_more(tally.zeros, accepted & f.zero),
+        ..tally
+    }
 }
 
 // An item is read, without the ending, by its rules, which may use the day and what the head told. Its code goes to its own byte;
@@ -227,17 +207,14 @@ fn item_read(tally: Tally, r: &[u8], day: u32, banks: &[u32], table: &mut [u8]) 
     requires { Ready tally table.old }
     ensures { ItemRead day banks.now tally table.old r.now result table.new }
 {
-    let a = tally.accepted;
-    let b = tally.refused;
-    let k = a.count + b.count;
+    let k = tally.accepted.count + tally.refused.count;
     let at = k as usize;
-    if at < table.len() {
-        let told = tally.told;
-        let f = items::item::found_in(r, k + 1, told, day, banks);
-        table[at] = f.code;
-        return counted(tally, f);
+    if at >= table.len() {
+        return phased(4, tally);
     }
-    phased(4, tally)
+    let f = items::item::found_in(r, k + 1, tally.told, day, banks);
+    table[at] = f.code;
+    counted(tally, f)
 }
 
 // The foot is read, without the ending. With no item before it, that is a break.
@@ -245,36 +222,28 @@ fn foot_read(tally: Tally, r: &[u8]) -> Tally
     requires { Summed tally }
     ensures { FootRead tally r.now result }
 {
-    let a = tally.accepted;
-    let b = tally.refused;
-    let items = a.count + b.count;
+    let items = tally.accepted.count + tally.refused.count;
     if items == 0 {
         return phased(3, tally);
     }
-    let mut t = tally;
-    t.phase = 2;
-    t.code = findings::earlier(tally.code, items::foot::code_in(r, items, a.sum + b.sum));
-    t
+    let sum = tally.accepted.sum + tally.refused.sum;
+    Tally {
+        phase: 2,
+        code: findings::earlier(tally.code, items::foot::code_in(r, items, sum)),
+        ..tally
+    }
 }
 
 // A record of its whole length, with its ending, is judged.
-fn record_read(
-    tally: Tally,
-    x: &[u8],
-    day: u32,
-    banks: &[u32],
-    known: &[u8],
-    barred: &[u32],
-    table: &mut [u8],
-) -> Tally
+fn record_read(tally: Tally, x: &[u8], day: u32, lists: &Lists, table: &mut [u8]) -> Tally
     requires ready { Ready tally table.old }
     requires x_len { length x.now ≡ size tally.phase x.now }
-    ensures { Read (judged (rules (lent day banks.now known.now barred.now))
+    ensures { Read (judged (rules (lent_in day lists.now))
         (state_with tally [] table.old) x.now) result table.new }
 {
     if tally.phase == 0 {
         if frame::has_ending(x, Session::HEAD) {
-            return head_read(tally, &x[0..Session::HEAD], day, banks, known, barred);
+            return head_read(tally, &x[0..Session::HEAD], day, lists);
         }
         return phased(3, tally);
     }
@@ -285,45 +254,33 @@ fn record_read(
         return phased(3, tally);
     }
     if frame::has_ending(x, Session::ITEM) {
-        return item_read(tally, &x[0..Session::ITEM], day, banks, table);
+        return item_read(tally, &x[0..Session::ITEM], day, lists.banks, table);
     }
     phased(3, tally)
 }
 
-// A tally, and how far into the piece whole records went.
+// A tally, and what is left of a piece after its whole records.
 #[derive(Clone, Copy)]
-pub struct Walked {
+pub struct Walked<'a> {
     pub tally: Tally,
-    pub at: usize,
+    pub rest: &'a [u8],
 }
 
 // Whole records are judged straight out of the piece, one after the other.
-fn walk(
-    tally: Tally,
-    piece: &[u8],
-    from: usize,
-    day: u32,
-    banks: &[u32],
-    known: &[u8],
-    barred: &[u32],
-    table: &mut [u8],
-) -> Walked
-    requires ready { Ready tally table.old }
-    requires from_in_bounds { from ≤ length piece.now }
-    ensures { WalkedOf (rules (lent day banks.now known.now barred.now)) tally (drop from piece.now)
-        from table.old result table.new }
+fn walk<'a>(tally: Tally, piece: &'a [u8], day: u32, lists: &Lists, table: &mut [u8]) -> Walked<'a>
+    requires { Ready tally table.old }
+    ensures { WalkedOf (rules (lent_in day lists.now)) tally piece.now table.old result table.new }
 {
     let mut t = tally;
-    let mut i = from;
+    let mut rest = piece;
     while t.phase <= 1 {
-        let n = size_of(t.phase, &piece[i..]);
-        if piece.len() - i < n {
-            return Walked { tally: t, at: i };
-        }
-        t = record_read(t, &piece[i..i + n], day, banks, known, barred, table);
-        i += n;
+        let Some((record, after)) = rest.split_at_checked(size_of(t.phase, rest)) else {
+            break;
+        };
+        t = record_read(t, record, day, lists, table);
+        rest = after;
     }
-    Walked { tally: t, at: i }
+    Walked { tally: t, rest }
 }
 
 // What a piece leaves: the tally, and how many bytes are held of a record begun.
@@ -334,28 +291,23 @@ struct Left {
 }
 
 // Zeros from a place on.
-fn cleared(held: &mut [u8], from: usize)
-    requires { (length held.old ≡ longest) × (from ≤ longest) }
+fn cleared(held: &mut [u8; frame::ITEM_ENDED], from: usize)
+    requires { from ≤ longest }
     ensures { held.new ≡ pad (take from held.old) }
 {
-    let mut at = from;
-    while at < held.len() {
-        held[at] = 0;
-        at += 1;
-    }
+    held[from..].fill(0);
 }
 
 // What is left of a piece after its whole records is held; after the foot it is a break.
-fn ended(tally: Tally, held: &mut [u8], x: &[u8]) -> Left
-    requires held_len { length held.old ≡ longest }
-    requires partial { Partial tally x.now }
+fn ended(tally: Tally, held: &mut [u8; frame::ITEM_ENDED], x: &[u8]) -> Left
+    requires { Partial tally x.now }
     ensures { EndedAs tally x.now result held.new }
 {
     if tally.phase <= 1 {
         text::put(held, x);
         cleared(held, x.len());
         return Left {
-            tally: tally,
+            tally,
             fill: x.len(),
         };
     }
@@ -368,61 +320,48 @@ fn ended(tally: Tally, held: &mut [u8], x: &[u8]) -> Left
             };
         }
     }
-    Left {
-        tally: tally,
-        fill: 0,
-    }
+    Left { tally, fill: 0 }
 }
 
 // From a place of the piece on, with nothing held: whole records straight out of the piece, then what is left.
 fn onward(
     tally: Tally,
-    held: &mut [u8],
+    held: &mut [u8; frame::ITEM_ENDED],
     piece: &[u8],
     from: usize,
     day: u32,
-    banks: &[u32],
-    known: &[u8],
-    barred: &[u32],
+    lists: &Lists,
     table: &mut [u8],
 ) -> Left
     requires ready { Ready tally table.old }
-    requires held_len { (length held.old ≡ longest) × (from ≤ length piece.now) }
-    ensures { Became (run (rules (lent day banks.now known.now barred.now)) (state_with tally [] table.old)
+    requires from_in_bounds { from ≤ length piece.now }
+    ensures { Became (run (rules (lent_in day lists.now)) (state_with tally [] table.old)
         (drop from piece.now)) result held.new table.new }
 {
-    let w = walk(tally, piece, from, day, banks, known, barred, table);
-    let t = w.tally;
-    let at = w.at;
-    ended(t, held, &piece[at..])
+    let w = walk(tally, &piece[from..], day, lists, table);
+    ended(w.tally, held, w.rest)
 }
 
 // A piece is read: the record begun, if one is, is completed where it stands and judged, and then what follows it.
 fn fed(
     tally: Tally,
     fill: usize,
-    held: &mut [u8],
+    held: &mut [u8; frame::ITEM_ENDED],
     piece: &[u8],
     day: u32,
-    banks: &[u32],
-    known: &[u8],
-    barred: &[u32],
+    lists: &Lists,
     table: &mut [u8],
 ) -> Left
-    requires fit { Fit tally fill held.old table.old }
-    requires held_len { length held.old ≡ longest }
-    ensures { Became (run (rules (lent day banks.now known.now barred.now))
+    requires { Fit tally fill held.old table.old }
+    ensures { Became (run (rules (lent_in day lists.now))
         (state_with tally (take fill held.old) table.old) piece.now) result held.new table.new }
 {
     if fill == 0 {
-        return onward(tally, held, piece, 0, day, banks, known, barred, table);
+        return onward(tally, held, piece, 0, day, lists, table);
     }
     if piece.len() == 0 {
         cleared(held, fill);
-        return Left {
-            tally: tally,
-            fill: fill,
-        };
+        return Left { tally, fill };
     }
     // with a byte more at least two are held, and the kind of the record shows
     held[fill] = piece[0];
@@ -431,19 +370,15 @@ fn fed(
         text::put(&mut held[fill..], piece);
         let end = fill + piece.len();
         cleared(held, end);
-        return Left {
-            tally: tally,
-            fill: end,
-        };
+        return Left { tally, fill: end };
     }
     text::put(&mut held[fill..], &piece[..n]);
-    let t = record_read(tally, &held[..fill + n], day, banks, known, barred, table);
-    onward(t, held, piece, n, day, banks, known, barred, table)
+    let t = record_read(tally, &held[..fill + n], day, lists, table);
+    onward(t, held, piece, n, day, lists, table)
 }
 
 // The record begun isn't whole, and none is begun after the foot, a break or an overflow.
-fn holds(phase: u8, fill: usize, held: &[u8]) -> bool
-    requires { length held.now ≡ longest }
+fn holds(phase: u8, fill: usize, held: &[u8; frame::ITEM_ENDED]) -> bool
     ensures { result ≡ held_in_range phase fill held.now }
 {
     if phase > 1 {
@@ -456,8 +391,14 @@ fn holds(phase: u8, fill: usize, held: &[u8]) -> bool
 }
 
 // The session is open, with every number in its range.
-fn in_range(day: u32, room: usize, tally: Tally, fill: usize, held: &[u8]) -> bool
-    requires { length held.now ≡ longest }
+#[tactic(auto, unfolding(crate::specs::Session::in_range))]
+fn in_range(
+    day: u32,
+    room: usize,
+    tally: Tally,
+    fill: usize,
+    held: &[u8; frame::ITEM_ENDED],
+) -> bool
     ensures { result ≡ in_range (parts_of day room tally fill held.now) }
 {
     if !calendar::is_date(day) {
@@ -473,35 +414,26 @@ fn in_range(day: u32, room: usize, tally: Tally, fill: usize, held: &[u8]) -> bo
 }
 
 // Whether a piece may be taken, beside a table of so many bytes: refusals 5, 2, 3, 15, 4.
+#[tactic(auto, unfolding(crate::specs::Session::piece_refused))]
 fn refusal_of(
     day: u32,
     room: usize,
     tally: Tally,
     fill: usize,
-    held: &[u8],
-    banks: &[u32],
-    known: &[u8],
-    barred: &[u32],
+    held: &[u8; frame::ITEM_ENDED],
+    lists: &Lists,
     len: usize,
-) -> Outcome
-    ensures { result ≡ parts_refused (parts_of day room tally fill held.now)
-        (listed banks.now known.now barred.now) len }
+) -> Result<(), Refusal>
+    ensures { result ≡ piece_refused (parts_of day room tally fill held.now) (listed_in lists.now) len }
 {
-    if held.len() != frame::ITEM_ENDED {
-        return Outcome::Refused(Refusal::Session);
-    }
     if !in_range(day, room, tally, fill, held) {
-        return Outcome::Refused(Refusal::Session);
+        return Err(Refusal::Session);
     }
-    match lent::list_refused(banks, known, barred) {
-        Outcome::Refused(r) => Outcome::Refused(r),
-        Outcome::Done => {
-            if len != room {
-                return Outcome::Refused(Refusal::Table);
-            }
-            Outcome::Done
-        }
+    lists.refused()?;
+    if len != room {
+        return Err(Refusal::Table);
     }
+    Ok(())
 }
 
 // A piece is taken where the session is in parts, with as many bytes lent for those held as the longest record has: refusals 5, 2, 3, 15, 4.
@@ -513,37 +445,31 @@ pub fn take_lent(
     fill: usize,
     held: &mut [u8],
     piece: &[u8],
-    banks: &[u32],
-    known: &[u8],
-    barred: &[u32],
+    lists: &Lists,
     table: &mut [u8],
 ) -> Step
     ensures { Stepped day room tally fill held.old piece.now
-        (listed banks.now known.now barred.now) table.old result held.new table.new }
+        (listed_in lists.now) table.old result held.new table.new }
 {
-    match refusal_of(
-        day,
-        room,
-        tally,
-        fill,
-        held,
-        banks,
-        known,
-        barred,
-        table.len(),
-    ) {
-        Outcome::Refused(r) => Step {
-            tally: tally,
-            fill: fill,
-            outcome: Outcome::Refused(r),
+    let Some(held) = held.as_mut_array::<{ frame::ITEM_ENDED }>() else {
+        return Step {
+            tally,
+            fill,
+            outcome: Err(Refusal::Session),
+        };
+    };
+    match refusal_of(day, room, tally, fill, held, lists, table.len()) {
+        Err(r) => Step {
+            tally,
+            fill,
+            outcome: Err(r),
         },
-        Outcome::Done => {
-            let l = fed(tally, fill, held, piece, day, banks, known, barred, table);
-            let t = l.tally;
+        Ok(()) => {
+            let l = fed(tally, fill, held, piece, day, lists, table);
             Step {
-                tally: t,
+                tally: l.tally,
                 fill: l.fill,
-                outcome: Outcome::Done,
+                outcome: Ok(()),
             }
         }
     }
@@ -574,31 +500,31 @@ impl Session {
     }
 
     // A fresh session for a clearing day and a code table: refusals 1, 4.
+    #[tactic(auto, using(crate::proofs::Held::pad_none), unfolding(crate::specs::Session::opened, crate::specs::Session::open_refused))]
     pub fn open(day: u32, table: &[u8]) -> Taken
         ensures { result ≡ opened day table.now }
     {
         if !calendar::is_date(day) {
             return Taken {
-                outcome: Outcome::Refused(Refusal::NotADay),
+                outcome: Err(Refusal::NotADay),
                 next: Session::closed(),
             };
         }
         if table.len() > Session::MOST {
             return Taken {
-                outcome: Outcome::Refused(Refusal::Table),
+                outcome: Err(Refusal::Table),
                 next: Session::closed(),
             };
         }
-        let s = Session {
-            day: day,
-            room: table.len(),
-            tally: unread(0),
-            fill: 0,
-            held: [0u8; frame::ITEM_ENDED],
-        };
         Taken {
-            outcome: Outcome::Done,
-            next: s,
+            outcome: Ok(()),
+            next: Session {
+                day,
+                room: table.len(),
+                tally: unread(0),
+                fill: 0,
+                held: [0u8; frame::ITEM_ENDED],
+            },
         }
     }
 
@@ -606,64 +532,47 @@ impl Session {
     fn in_range(self) -> bool
         ensures { result ≡ in_range self }
     {
-        let t = self.tally;
-        let h = self.held;
-        in_range(self.day, self.room, t, self.fill, &h)
+        in_range(self.day, self.room, self.tally, self.fill, &self.held)
     }
 
     // A piece is taken: refusals 5, 2, 3, 15, 4.
-    pub fn take(
-        self,
-        piece: &[u8],
-        banks: &[u32],
-        known: &[u8],
-        barred: &[u32],
-        table: &mut [u8],
-    ) -> Taken
-        ensures { Took self piece.now (listed banks.now known.now barred.now)
-            table.old result table.new }
+    pub fn take(self, piece: &[u8], lists: &Lists, table: &mut [u8]) -> Taken
+        ensures { Took self piece.now (listed_in lists.now) table.old result table.new }
     {
-        let t = self.tally;
-        let mut h = self.held;
+        let mut held = self.held;
         let step = take_lent(
-            self.day, self.room, t, self.fill, &mut h, piece, banks, known, barred, table,
+            self.day, self.room, self.tally, self.fill, &mut held, piece, lists, table,
         );
-        let o = step.outcome;
-        let t2 = step.tally;
         Taken {
-            outcome: o,
+            outcome: step.outcome,
             next: Session {
-                day: self.day,
-                room: self.room,
-                tally: t2,
+                tally: step.tally,
                 fill: step.fill,
-                held: h,
+                held,
+                ..self
             },
         }
     }
 
-    // The message is over: refusals 5, 6. The verdict, and a closed session.
+    // The message is over: refusals 5, 6. The verdict, and a closed session; the session as it was where it is none.
+    #[tactic(auto, using(crate::proofs::Held::closing_early), unfolding(crate::specs::Session::closed_of, frame::specs::Machine::closing))]
     pub fn close(self) -> Closed
         ensures { result ≡ closed_of self }
     {
         if !self.in_range() {
             return Closed {
-                outcome: Outcome::Refused(Refusal::Session),
-                closing: blank(0, 0, [b' '; 25]),
+                closing: Err(Refusal::Session),
                 next: self,
             };
         }
-        let t = self.tally;
-        if t.phase == 4 {
+        if self.tally.phase == 4 {
             return Closed {
-                outcome: Outcome::Refused(Refusal::Overflow),
-                closing: blank(0, 0, [b' '; 25]),
+                closing: Err(Refusal::Overflow),
                 next: Session::closed(),
             };
         }
         Closed {
-            outcome: Outcome::Done,
-            closing: closing_of(t),
+            closing: Ok(closing_of(self.tally)),
             next: Session::closed(),
         }
     }
@@ -673,14 +582,13 @@ impl Session {
 fn blank(kind: u32, code: u8, id: [u8; 25]) -> Closing
     ensures { result ≡ blank kind code id }
 {
-    let none = Totals { count: 0, sum: 0 };
     Closing {
-        code: code,
-        kind: kind,
-        accepted: none,
-        refused: none,
+        code,
+        kind,
+        accepted: Totals { count: 0, sum: 0 },
+        refused: Totals { count: 0, sum: 0 },
         zeros: 0,
-        id: id,
+        id,
     }
 }
 
@@ -690,26 +598,22 @@ fn closing_of(t: Tally) -> Closing
     ensures { result ≡ (closing t).closing }
 {
     let id = t.id;
-    let told = t.told;
-    let kind = told.kind as u32;
+    let kind = t.told.kind as u32;
     if t.phase != 2 {
         return blank(kind, 26, id);
     }
     if t.letter {
         return blank(kind, 36, id);
     }
-    let code = t.code;
-    if code != 0 {
-        return blank(kind, code, id);
+    if t.code != 0 {
+        return blank(kind, t.code, id);
     }
-    let a = t.accepted;
-    let r = t.refused;
     Closing {
         code: 0,
-        kind: kind,
-        accepted: a,
-        refused: r,
+        kind,
+        accepted: t.accepted,
+        refused: t.refused,
         zeros: t.zeros,
-        id: id,
+        id,
     }
 }

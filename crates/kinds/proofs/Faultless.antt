@@ -7,6 +7,7 @@ use Prim.Native.Nat.{ℕ, ◌+◌}
 use lib.Dec.{eqb}
 use lib.ListN.{length}
 use borrow.Author.Tests.{eq-eqb, not-false}
+use Rattle.std.specs.Prelude.{Ok, Err}
 use Rattle.base.specs.Bytes.{ascii, field, same}
 use Rattle.base.specs.Each.{Each}
 use Rattle.text.specs.Text.{is_text}
@@ -20,9 +21,7 @@ use Rattle.frame.proofs.Counting.{findings_length}
 use Rattle.frame.proofs.Cut.{each_item, head_long, foot_long}
 use Rattle.frame.proofs.Faults.{codeless, code_zero}
 use Rattle.findings.specs.declared.Kind.TheVariants.{Mark, NotDigits, BlankOrZero, OutOfOrder}
-use Rattle.findings.specs.declared.Finding.{Finding}
-use Rattle.findings.specs.declared.Finding.TheVariants.{Right, Fault}
-use Rattle.findings.specs.Findings.{unless}
+use Rattle.findings.specs.Findings.{Finding, Right, unless}
 use Rattle.findings.specs.Codes.{Ü, T, always, digits_else, first_whole, first_alone}
 use Rattle.findings.specs.Faults.{is_whole, is_code, codes_pass}
 use Rattle.findings.proofs.Faults.{spoils, NoneSpoils, none_spoils, no_code, all_right, right_spares}
@@ -38,8 +37,8 @@ use Rattle.kinds.proofs.Totals.{foot_says, foot_right_lem}
 
 -- a code of the item alone spoils nothing, nor does a number that is wrong
 alone : (n : ℕ) (f : Finding) → spoils (always (T n)) f ≡ false
-alone n Right = refl
-alone n (Fault k) = refl
+alone n (Ok u) = refl
+alone n (Err k) = refl
 
 number_alone : (d k : Bool) → spoils (digits_else (T 39) (T 32)) (unless d NotDigits (unless k OutOfOrder Right)) ≡ false
 number_alone true true = refl

@@ -1,6 +1,6 @@
 -- The examples that 01 marks P, proved together by a single statement over a list (01, Examples).
 -- Assumes nothing.
-use Rattle.std.specs.Prelude.{ℕ, zero, suc, ◌-◌, ◌≡◌, refl, Bool, true, false, not, ◌&&◌, List, [], ◌∷◌, ◌++◌, length, take, replicate, eqb}
+use Rattle.std.specs.Prelude.{ℕ, zero, suc, ◌-◌, ◌≡◌, refl, Bool, true, false, not, ◌&&◌, List, [], ◌∷◌, ◌++◌, length, take, replicate, eqb, Ok, Err}
 use Rattle.base.specs.Bytes.{ascii}
 use Rattle.digits.specs.Digits.{number_of}
 use Rattle.cdv.specs.Check.{satisfies, is_ean13}
@@ -10,8 +10,7 @@ use Rattle.calendar.specs.DateField.{date_field}
 use Rattle.purposes.specs.Purposes.{purposes}
 use Rattle.frame.specs.Records.{ending, ended, is_foot, items_in, rest_after}
 use Rattle.frame.specs.Verdict.{findings, message_code}
-use Rattle.findings.specs.declared.Finding.{Finding}
-use Rattle.findings.specs.declared.Finding.TheVariants.{Right, Fault}
+use Rattle.findings.specs.Findings.{Finding}
 use Rattle.findings.specs.Codes.{Rule, whole_code}
 use Rattle.fields.specs.Fields.{place_found, amount_found}
 use Rattle.checked.specs.Checked.{is_tax_form, initiator_found, compiled_found, debit_found, bank_found}
@@ -38,8 +37,8 @@ agree true b = b
 agree false b = not b
 
 abbrev pub is_right : Finding → Bool
-is_right Right = true
-is_right (Fault k) = false
+is_right (Ok u) = true
+is_right (Err k) = false
 
 -- the code by the k-th row of a table, from 0
 abbrev pub code_by : ℕ → List Rule → ℕ

@@ -6,8 +6,8 @@ use Rattle.base.specs.Each.{Each}
 use Rattle.text.specs.Text.{is_text}
 use Rattle.digits.specs.Digits.{number_of}
 use Rattle.frame.specs.Records.{lengths, head_of, items_of, foot_of, is_broken}
-use Rattle.findings.specs.declared.Finding.TheVariants.{Right}
 use Rattle.fields.specs.Fields.{digits_of}
+use Rattle.findings.specs.Findings.{Right}
 use Rattle.kinds.specs.Codes.{head_rules}
 
 -- the sum of the items' amounts; one that isn't ten digits counts as 0

@@ -3,14 +3,16 @@
 // says which).
 #![tactic(auto)]
 
+use account::AccountFault;
+use calendar::DateFault;
 use console::{put, put_next, read_full};
-use script::{end_of, field};
+use script::field;
 
 // Room for the numbers of a list: each barred code (02 #105), and one number more.
 const LIST: usize = 1001;
 
 fn put_flag(rt: &impl Print, yes: bool) {
-    put_next(rt, yes as u64);
+    put_next(rt, u64::from(yes));
 }
 
 fn decimal(rt: &impl Print, s: &[u8]) {
@@ -22,68 +24,58 @@ fn account(rt: &impl Print, s: &[u8]) {
     put_next(
         rt,
         match account::read(s) {
-            account::Account::Good => 0,
-            account::Account::FormOfFirstEight => 1,
-            account::Account::FormOfLastEight => 2,
-            account::Account::CheckDigitOverEight => 3,
-            account::Account::CheckDigitOverSixteen => 4,
+            Ok(()) => 0,
+            Err(AccountFault::FormOfFirstEight) => 1,
+            Err(AccountFault::FormOfLastEight) => 2,
+            Err(AccountFault::CheckDigitOverEight) => 3,
+            Err(AccountFault::CheckDigitOverSixteen) => 4,
         },
     );
     put_flag(rt, account::is_zero(s));
 }
 
+// Kept: 0 is printed for a number that doesn't fit, so an Option would be turned back at once.
 // The number that the twenty digits after the first two bytes stand for, 0 where it is 2^64 or more.
 fn large(s: &[u8]) -> u64 {
-    if s.len() < 22 {
+    let Some(low) = s.get(6..22) else {
         return 0;
-    }
-    let high = field(s, 2, 6) as u64;
-    let low = digits::number(&s[6..22]);
-    if high > 1844 {
-        return 0;
-    }
-    if low > 9999999999999999 {
-        return 0;
-    }
-    if high == 1844 {
-        if low > 6744073709551615 {
-            return 0;
-        }
-        return 18440000000000000000 + low;
-    }
-    high * 10000000000000000 + low
+    };
+    u64::from(field(s, 2, 6))
+        .checked_mul(10000000000000000)
+        .and_then(|high| high.checked_add(digits::number(low)))
+        .unwrap_or(0)
 }
 
 // A number written into the bytes after its width and its digits.
 fn written(rt: &impl Print, space: &mut [u8], s: &[u8]) {
-    if s.len() < 22 {
+    let Some(bytes) = s.get(22..) else {
         return;
-    }
-    let count = s.len() - 22;
-    if count > space.len() {
+    };
+    let Some(out) = space.get_mut(..bytes.len()) else {
         return;
-    }
-    text::put(space, &s[22..]);
-    let w = field(s, 0, 2) as usize;
-    put_flag(rt, digits::put_number(&mut space[0..count], w, large(s)));
+    };
+    text::put(out, bytes);
+    put_flag(
+        rt,
+        digits::put_number(out, field(s, 0, 2) as usize, large(s)),
+    );
     put(rt, b" ");
-    put(rt, &space[0..count]);
+    put(rt, out);
 }
 
 // Bytes put over the front of those after them; two digits say how many.
 fn put_over(rt: &impl Print, space: &mut [u8], s: &[u8]) {
     let end = 2 + field(s, 0, 2) as usize;
-    if s.len() < end {
+    let Some(bytes) = s.get(end..) else {
         return;
-    }
-    let count = s.len() - end;
-    if count > space.len() {
+    };
+    let Some(out) = space.get_mut(..bytes.len()) else {
         return;
-    }
-    text::put(space, &s[end..]);
-    put_flag(rt, text::put(&mut space[0..count], &s[2..end]));
+    };
+    text::put(out, bytes);
+    put_flag(rt, text::put(out, &s[2..end]));
     put(rt, b" ");
-    put(rt, &space[0..count]);
+    put(rt, out);
 }
 
 fn text_field(rt: &impl Print, s: &[u8]) {
@@ -94,22 +86,19 @@ fn text_field(rt: &impl Print, s: &[u8]) {
 }
 
 fn every_byte(rt: &impl Print) {
-    let mut b: usize = 0;
-    while b < 256 {
-        let one = [(b % 256) as u8];
-        put_flag(rt, text::is_text(&one));
-        b += 1;
+    for b in 0..=u8::MAX {
+        put_flag(rt, text::is_text(&[b]));
     }
 }
 
 fn date_field(rt: &impl Print, s: &[u8]) {
     match calendar::read_date(s) {
-        calendar::DateField::Date(n) => {
+        Ok(n) => {
             put_flag(rt, calendar::is_date(n));
             put_next(rt, calendar::day_number(n) as u64);
         }
-        calendar::DateField::NotDigits => put_next(rt, 2),
-        calendar::DateField::NoDate => put_next(rt, 3),
+        Err(DateFault::NotDigits) => put_next(rt, 2),
+        Err(DateFault::NoDate) => put_next(rt, 3),
     }
 }
 
@@ -123,14 +112,7 @@ fn window(rt: &impl Print, s: &[u8]) {
 
 // Each number is above the one before it.
 fn rises(list: &[u32]) -> bool {
-    let mut i = 1;
-    while i < list.len() {
-        if list[i] <= list[i - 1] {
-            return false;
-        }
-        i += 1;
-    }
-    true
+    list.is_sorted_by(|a, b| a < b)
 }
 
 // The answers on a list and a code; where the list doesn't rise, being listed isn't promised.
@@ -145,10 +127,10 @@ fn listed(rt: &impl Print, list: &[u32], code: u32) {
 
 // A code, and the numbers of a bank list, ten digits each.
 fn banks(rt: &impl Print, space: &mut [u32], s: &[u8]) {
-    if s.len() < 10 {
+    let Some(numbers) = s.get(10..) else {
         return;
-    }
-    let count = script::fill(space, &s[10..]);
+    };
+    let count = script::fill(space, numbers);
     listed(rt, &space[..count], field(s, 0, 10));
 }
 
@@ -160,24 +142,21 @@ fn barred(rt: &impl Print, space: &mut [u32], s: &[u8]) {
 
 // An identifier, and a known list.
 fn known(rt: &impl Print, s: &[u8]) {
-    if s.len() < 25 {
+    let Some((id, list)) = s.split_first_chunk() else {
         return;
-    }
-    let mut id = [0u8; 25];
-    text::put(&mut id, &s[0..25]);
-    let list = &s[25..];
+    };
     put_flag(rt, lists::is_known_list(list));
-    put_flag(rt, lists::is_known(list, id));
+    put_flag(rt, lists::is_known(list, *id));
 }
 
 // Ten digits count, sixteen digits sum, and a foot.
 fn foot(rt: &impl Print, s: &[u8]) {
-    if s.len() < 26 {
+    let Some(foot) = s.get(26..) else {
         return;
-    }
-    let count = digits::number(&s[0..10]);
+    };
+    let count = digits::number(&s[..10]);
     let sum = digits::number(&s[10..26]);
-    put_next(rt, items::foot::code_in(&s[26..], count, sum) as u64);
+    put_next(rt, u64::from(items::foot::code_in(foot, count, sum)));
 }
 
 fn answer(rt: &impl Print, command: u8, s: &[u8]) {
@@ -206,18 +185,15 @@ fn answer(rt: &impl Print, command: u8, s: &[u8]) {
 fn line(rt: &impl Print, s: &[u8]) {
     put(rt, s);
     put(rt, b"\t");
-    if s.len() >= 2 {
-        answer(rt, s[0], &s[2..]);
+    if let [command, _, bytes @ ..] = s {
+        answer(rt, *command, bytes);
     }
     put(rt, b"\n");
 }
 
 fn lines(rt: &impl Print, s: &[u8]) {
-    let mut at = 0;
-    while at < s.len() {
-        let end = end_of(s, at, b'\n');
-        line(rt, &s[at..end]);
-        at = end + 1;
+    for piece in s.split_inclusive(|b| *b == b'\n') {
+        line(rt, piece.strip_suffix(b"\n").unwrap_or(piece));
     }
 }
 

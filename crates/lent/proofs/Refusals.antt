@@ -11,20 +11,19 @@ use Rattle.lists.specs.Banks.{is_bank_list, is_barred_list}
 use Rattle.lists.specs.Known.{is_known_list}
 use Rattle.lent.specs.declared.Refusal.{Refusal}
 use Rattle.lent.specs.declared.Refusal.TheVariants.{BankList, KnownList, BarredList}
-use Rattle.lent.specs.declared.Outcome.{Outcome}
-use Rattle.lent.specs.declared.Outcome.TheVariants.{Done, Refused}
-use Rattle.lent.specs.Lent.{Lists, refusal_number, outcome_number, by, list_refused}
+use Rattle.lent.specs.Lent.{Lists, Outcome, refusal_number, outcome_number, by, list_refused}
+use Rattle.std.proofs.Common.{Ok, Err}
 use Rattle.lent.specs.Refusals.{list_refusals}
 
 -- nothing is refused
-pub done : ByRows outcome_number Done []
+pub done : ByRows {A = Outcome} outcome_number (Ok tt) []
 done = record { is = refl }
 
 -- a call whose outcome is that of its tests
 pub as_tested : {A : Type 0} (outcome : A → Outcome) (o : Outcome) (a : A) (f : Refusal → A)
-    → outcome a ≡ Done → ((r : Refusal) → outcome (f r) ≡ Refused r) → outcome (by o a f) ≡ o
-as_tested outcome Done a f p q = p
-as_tested outcome (Refused r) a f p q = q r
+    → outcome a ≡ (Ok tt) → ((r : Refusal) → outcome (f r) ≡ Err r) → outcome (by o a f) ≡ o
+as_tested outcome (Ok tt) a f p q = p
+as_tested outcome (Err r) a f p q = q r
 
 -- the lists, and then what follows
 module _ {A : Type 0} {number : A → ℕ} (f : Refusal → A) (k : (r : Refusal) → number (f r) ≡ refusal_number r) where
@@ -33,7 +32,7 @@ module _ {A : Type 0} {number : A → ℕ} (f : Refusal → A) (k : (r : Refusal
   after_lists l {a} {rs} w = go (is_bank_list l.banks) (is_known_list l.known) (is_barred_list l.barred)
     where
       go : (b c d : Bool)
-          → ByRows number (by (cond b (cond c (cond d Done (Refused BarredList)) (Refused KnownList)) (Refused BankList)) a f)
+          → ByRows number (by (cond b (cond c (cond d (Ok tt) (Err BarredList)) (Err KnownList)) (Err BankList)) a f)
           ((2, not b) ∷ (3, not c) ∷ (15, not d) ∷ rs)
       go true true true = record { is = w.is }
       go true true false = record { is = k BarredList }
@@ -47,7 +46,7 @@ unfolding list_refused
 lists_pass l a f rs = go (is_bank_list l.banks) (is_known_list l.known) (is_barred_list l.barred)
   where
     go : (b c d : Bool) → first_given ((2, not b) ∷ (3, not c) ∷ (15, not d) ∷ rs) ≡ 0
-        → (by (cond b (cond c (cond d Done (Refused BarredList)) (Refused KnownList)) (Refused BankList)) a f ≡ a) × (first_given rs ≡ 0)
+        → (by (cond b (cond c (cond d (Ok tt) (Err BarredList)) (Err KnownList)) (Err BankList)) a f ≡ a) × (first_given rs ≡ 0)
     go true true true e = (refl, e)
     go true true false e = absurd (omega arith)
     go true false d e = absurd (omega arith)
@@ -57,6 +56,6 @@ lists_pass l a f rs = go (is_bank_list l.banks) (is_known_list l.known) (is_barr
 pub lists : (l : Lists) → outcome_number (list_refused l) ≡ first_given (list_refusals l)
 unfolding list_refused
 lists l =
-    (asked (is_bank_list l.banks) (Refused BankList)
-    (asked (is_known_list l.known) (Refused KnownList) (asked (is_barred_list l.barred) (Refused BarredList) done))
+    (asked (is_bank_list l.banks) (Err BankList)
+    (asked (is_known_list l.known) (Err KnownList) (asked (is_barred_list l.barred) (Err BarredList) done))
     ).is

@@ -2,8 +2,9 @@
 #![tactic(auto)]
 
 ghost use Rattle.std.specs.Prelude.{◌≡◌};
-ghost use Rattle.lent.specs.Lent.{refusal_number, listed, list_refused};
+ghost use Rattle.lent.specs.Lent.{refusal_number, listed_in, list_refused};
 
+// Why a call is refused.
 #[derive(Clone, Copy)]
 pub enum Refusal {
     // E is not a date.
@@ -36,47 +37,53 @@ pub enum Refusal {
     BarredList,
 }
 
-// The number that 01 or 02 gives the refusal.
-pub fn number(r: Refusal) -> u8
-    ensures { result ≡ refusal_number r }
-{
-    match r {
-        Refusal::NotADay => 1,
-        Refusal::BankList => 2,
-        Refusal::KnownList => 3,
-        Refusal::Table => 4,
-        Refusal::Session => 5,
-        Refusal::Overflow => 6,
-        Refusal::Address => 7,
-        Refusal::Particulars => 8,
-        Refusal::Room => 9,
-        Refusal::Malformed => 10,
-        Refusal::RequestList => 11,
-        Refusal::Fedjel => 12,
-        Refusal::Standing => 13,
-        Refusal::BarredList => 15,
+impl From<Refusal> for u8 {
+    ghost from_gives = { λ r n. n ≡ refusal_number r };
+
+    // The number that 01 or 02 gives the refusal.
+    fn from(r: Refusal) -> u8 {
+        match r {
+            Refusal::NotADay => 1,
+            Refusal::BankList => 2,
+            Refusal::KnownList => 3,
+            Refusal::Table => 4,
+            Refusal::Session => 5,
+            Refusal::Overflow => 6,
+            Refusal::Address => 7,
+            Refusal::Particulars => 8,
+            Refusal::Room => 9,
+            Refusal::Malformed => 10,
+            Refusal::RequestList => 11,
+            Refusal::Fedjel => 12,
+            Refusal::Standing => 13,
+            Refusal::BarredList => 15,
+        }
     }
 }
 
-// What a call comes to.
+// The lists that come with a message, or with each piece of it.
 #[derive(Clone, Copy)]
-pub enum Outcome {
-    Done,
-    Refused(Refusal),
+pub struct Lists<'a> {
+    pub banks: &'a [u32],
+    pub known: &'a [u8],
+    pub barred: &'a [u32],
 }
 
-// The first list that is refused, if one is: refusals 2, 3, 15.
-pub fn list_refused(banks: &[u32], known: &[u8], barred: &[u32]) -> Outcome
-    ensures { result ≡ list_refused (listed banks.now known.now barred.now) }
-{
-    if !lists::is_bank_list(banks) {
-        return Outcome::Refused(Refusal::BankList);
+impl<'a> Lists<'a> {
+    // The first list that is refused, if one is: refusals 2, 3, 15.
+    #[tactic(auto, unfolding(crate::specs::Lent::list_refused))]
+    pub fn refused(&self) -> Result<(), Refusal>
+        ensures { result ≡ list_refused (listed_in self.now) }
+    {
+        if !lists::is_bank_list(self.banks) {
+            return Err(Refusal::BankList);
+        }
+        if !lists::is_known_list(self.known) {
+            return Err(Refusal::KnownList);
+        }
+        if !lists::is_barred_list(self.barred) {
+            return Err(Refusal::BarredList);
+        }
+        Ok(())
     }
-    if !lists::is_known_list(known) {
-        return Outcome::Refused(Refusal::KnownList);
-    }
-    if !lists::is_barred_list(barred) {
-        return Outcome::Refused(Refusal::BarredList);
-    }
-    Outcome::Done
 }

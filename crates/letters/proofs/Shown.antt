@@ -3,21 +3,22 @@
 use mathlib.Core.Path.{◌≡◌, refl, sym, ap, ◌∙◌}
 use mathlib.Core.Bool.{Bool, true, false, cond, not, ◌&&◌}
 use mathlib.Core.List.{List, [], ◌∷◌, ◌++◌, append_assoc, append-nil}
-use Prim.Native.Nat.{ℕ, ◌+◌, ◌-◌, ◌/◌, ◌%◌, ◌≤◌, ◌<◌}
+use Prim.Native.Nat.{ℕ, ◌+◌, ◌/◌, ◌%◌, ◌≤◌, ◌<◌}
 use native.Mathlib.Nat.{add-zero}
 use native.Mathlib.Numerals.{add-one}
 use native.Mathlib.Omega.{arith}
 use lib.Dec.{leb, ltb, eqb}
-use lib.ListN.{length, get_or, set, take, drop, length-append, take-append-drop, drop_of_length-le}
-use lib.Seq.{take-suc, take_all, drop-cons}
-use borrow.Author.Tests.{le-leb, lt-leb, lt-ltb, le-ltb, leb-true, leb-false, ltb-true, ne_eqb, not-true}
+use lib.ListN.{length, get_or, set, take, drop, length-append, take-append-drop}
+use lib.Seq.{take-suc, drop-cons}
+use borrow.Author.Tests.{lt-ltb, le-ltb, leb-true, ltb-true, not-true}
+use Rattle.std.proofs.Common.{Option, Some, None}
 use Rattle.base.specs.Bytes.{every, over}
 use Rattle.base.proofs.Every.{both as both_true}
 use Rattle.base.proofs.Over.{over_none, over_set}
 use Rattle.text.specs.Text.{plain, with_bytes}
 use Rattle.base.specs.Put.{Written, Put}
-use Rattle.letters.specs.Letters.{Letter, hungarian, number_in, unicode, hex, mark, utf8, is_marked, own, shown_byte, shown}
-use Rattle.base.proofs.Put.{both, kept, room, written, unwritten}
+use Rattle.letters.specs.Letters.{Letter, hungarian, number_in, unicode, hex, mark, utf8, letter, letter_or_mark, own, shown_byte, shown}
+use Rattle.base.proofs.Put.{both, room}
 
 -- one byte is put
 pub one_set : (x : List ℕ) (a b : ℕ) → a < length x → set x a b ≡ over x a (b ∷ [])
@@ -45,75 +46,64 @@ utf8_two n h = simp (le-ltb n 0x80 h)
 pub said : {x : List ℕ} {a : ℕ} {d e : List ℕ} {r : ℕ} {y : List ℕ} → d ≡ e → Put x a e r y → Put x a d r y
 said p q = rw p q
 
-module _ (x : List ℕ) (a n : ℕ) (h : a + length (utf8 n) ≤ length x) where
-  pub one_room : n < 0x80 → a < length x
-  one_room k = omega (arith, h, ap length (utf8_one n k))
-
-  module _ (k : 0x80 ≤ n) where
-    two_long : a + 2 ≤ length x
-    two_long = omega (arith, h, ap length (utf8_two n k))
-
-    pub first_room : a < length x
-    first_room = omega (arith, two_long)
-
-    module _ {i : ℕ} {y : List ℕ} (p : Put x a ((0xc0 + n / 64) ∷ []) i y) where
-      pub second_room : i < length y
-      second_room = omega (arith, room p ((0x80 + n % 64) ∷ []) (omega (arith, two_long)))
-
-      pub two_put : {r : ℕ} {z : List ℕ} → Put y i ((0x80 + n % 64) ∷ []) r z → Put x a (utf8 n) r z
-      two_put q = said (utf8_two n k) (both p ((0x80 + n % 64) ∷ []) (omega (arith, two_long)) q)
+module _ (x : List ℕ) (a n : ℕ) (h : a + length (utf8 n) ≤ length x) (k : 0x80 ≤ n) {i : ℕ} {y : List ℕ} (p : Put x a ((0xc0 + n / 64) ∷ []) i y) where
+  pub two_put : {r : ℕ} {z : List ℕ} → Put y i ((0x80 + n % 64) ∷ []) r z → Put x a (utf8 n) r z
+  two_put q = said (utf8_two n k) (both p ((0x80 + n % 64) ∷ []) (omega (arith, ap length (utf8_two n k))) q)
 
 -- the numbers of a table are below 800h
 small : List Letter → Bool
 small [] = true
 small (l ∷ ls) = ltb l.number 0x800 && small ls
 
-picked : (t : Bool) (m n : ℕ) → m < 0x800 → n < 0x800 → cond t m n < 0x800
-picked true m n h k = h
-picked false m n h k = k
+picked : (t : Bool) (m n : ℕ) (r : Option ℕ) → m < 0x800 → (r ≡ Some n → n < 0x800) → cond t (Some m) r ≡ Some n → n < 0x800
+picked true m n r h k e =
+    let x : m ≡ n = cc in
+    omega arith
+picked false m n r h k e = k e
 
-small_in : (ls : List Letter) (b : ℕ) → small ls ≡ true → number_in ls b < 0x800
+small_in : (ls : List Letter) (b n : ℕ) → small ls ≡ true → number_in ls b ≡ Some n → n < 0x800
 unfolding small
-small_in [] b e = omega arith
-small_in (l ∷ ls) b e =
+small_in [] b n e f = absurd (cc)
+small_in (l ∷ ls) b n e f =
     let h = both_true (ltb l.number 0x800) (small ls) e in
-    picked (eqb b l.byte) l.number (number_in ls b) (ltb-true l.number 0x800 h.0) (small_in ls b h.1)
+    picked (eqb b l.byte) l.number n (number_in ls b) (ltb-true l.number 0x800 h.0) (small_in ls b n h.1) f
 
-pub unicode_small : (b : ℕ) → unicode b < 0x800
+unicode_small : (b n : ℕ) → unicode b ≡ Some n → n < 0x800
 unfolding unicode small
-unicode_small b = go (plain b) refl
+unicode_small b n f = go (plain b) refl f
   where
-    go : (t : Bool) → plain b ≡ t → cond t b (number_in hungarian b) < 0x800
-    go true e =
+    go : (t : Bool) → plain b ≡ t → cond t (Some b) (number_in hungarian b) ≡ Some n → n < 0x800
+    go true e f =
         let h = leb-true b 0x7e (both_true (leb 0x20 b) (leb b 0x7e) e).1 in
+        let x : b ≡ n = cc in
         omega arith
-    go false e = small_in hungarian b refl
+    go false e f = small_in hungarian b n refl f
 
--- a byte as it is shown
-as_mark : (b : ℕ) → is_marked b ≡ true → shown_byte b ≡ mark b
-unfolding shown_byte
-as_mark b e = simp e
+pub letter_small : (b n : ℕ) → letter b ≡ Some n → n < 0x800
+letter_small b n f = go (eqb b 0x5c) f
+  where
+    go : (t : Bool) → cond t None (unicode b) ≡ Some n → n < 0x800
+    go true f = absurd (cc)
+    go false f = unicode_small b n f
 
-as_utf8 : (b : ℕ) → is_marked b ≡ false → shown_byte b ≡ utf8 (unicode b)
-unfolding shown_byte
-as_utf8 b e = simp e
+-- a byte as it is shown, and how long
+module _ (b : ℕ) {r : Option ℕ} (m : r ≡ letter b) where
+  pub by_mark : r ≡ None → shown_byte b ≡ mark b
+  unfolding shown_byte
+  by_mark e = ap (λ (x : Option ℕ). letter_or_mark x b) (sym m ∙ e)
 
--- how long a byte is shown
-module _ (b : ℕ) {t : Bool} (m : t ≡ is_marked b) where
-  pub by_mark : t ≡ true → shown_byte b ≡ mark b
-  by_mark e = as_mark b (sym m ∙ e)
+  pub by_letter : {n : ℕ} → r ≡ Some n → shown_byte b ≡ utf8 n
+  unfolding shown_byte
+  by_letter e = ap (λ (x : Option ℕ). letter_or_mark x b) (sym m ∙ e)
 
-  pub by_letter : t ≡ false → {n : ℕ} → n ≡ unicode b → shown_byte b ≡ utf8 n
-  by_letter e f = as_utf8 b (sym m ∙ e) ∙ ap utf8 (sym f)
-
-  pub four_wide : t ≡ true → 4 ≡ length (shown_byte b)
+  pub four_wide : r ≡ None → 4 ≡ length (shown_byte b)
   four_wide e = sym (ap length (by_mark e))
 
-  pub one_wide : t ≡ false → {n : ℕ} → n ≡ unicode b → n < 0x80 → 1 ≡ length (shown_byte b)
-  one_wide e {n} f h = sym (ap length (by_letter e f ∙ utf8_one n h))
+  pub one_wide : {n : ℕ} → r ≡ Some n → n < 0x80 → 1 ≡ length (shown_byte b)
+  one_wide {n} e h = sym (ap length (by_letter e ∙ utf8_one n h))
 
-  pub two_wide : t ≡ false → {n : ℕ} → n ≡ unicode b → 0x80 ≤ n → 2 ≡ length (shown_byte b)
-  two_wide e {n} f h = sym (ap length (by_letter e f ∙ utf8_two n h))
+  pub two_wide : {n : ℕ} → r ≡ Some n → 0x80 ≤ n → 2 ≡ length (shown_byte b)
+  two_wide {n} e h = sym (ap length (by_letter e ∙ utf8_two n h))
 
 -- a field as it is shown, in two parts
 shown_append : (s t : List ℕ) → shown (s ++ t) ≡ shown s ++ shown t
@@ -138,47 +128,8 @@ pub record Left (s : List ℕ) (room i left : ℕ) : Type 0 where
   pub within : i ≤ length s
   pub decides : leb (length (shown s)) room ≡ leb (length (shown (drop i s))) left
 
-pub left_start : (s : List ℕ) (room : ℕ) → Left s room 0 room
-left_start s room = record { within = omega arith; decides = refl }
-
-less : (w n left : ℕ) → w ≤ left → leb (w + n) left ≡ leb n (left - w)
-less w n left h = go (leb n (left - w)) refl
-  where
-    go : (t : Bool) → leb n (left - w) ≡ t → leb (w + n) left ≡ t
-    go true e =
-        let k = leb-true n (left - w) e in
-        le-leb (w + n) left (omega arith)
-    go false e =
-        let k = leb-false n (left - w) e in
-        lt-leb (w + n) left (omega arith)
-
-module _ {s : List ℕ} {room i left : ℕ} (l : Left s room i left) where
-  module _ (h : i < length s) {w : ℕ} (e : w ≡ length (shown_byte (get_or s i 0))) where
-    as_sum : length (shown (drop i s)) ≡ w + length (shown (drop (i + 1) s))
-    as_sum =
-        let rest = shown (drop (i + 1) s) in
-        ap length (here s i h) ∙ length-append (shown_byte (get_or s i 0)) rest ∙ ap (λ (n : ℕ). n + length rest) (sym e)
-
-    pub no_room : left < w → false ≡ leb (length (shown s)) room
-    no_room k = sym (l.decides ∙ lt-leb (length (shown (drop i s))) left (omega (arith, as_sum)))
-
-    pub left_on : w ≤ left → Left s room (i + 1) (left - w)
-    left_on k =
-        record {
-          within = omega arith;
-          decides = l.decides ∙ ap (λ (n : ℕ). leb n left) as_sum ∙ less w (length (shown (drop (i + 1) s))) left k;
-        }
-
-  pub left_ends : length s ≤ i → true ≡ leb (length (shown s)) room
-  left_ends h =
-      let e : drop i s ≡ [] = drop_of_length-le s h in
-      sym (l.decides ∙ ap (λ (d : List ℕ). leb (length (shown d)) left) e ∙ le-leb 0 left (omega arith))
-
 -- what the test on the room says
 module _ (d x : List ℕ) {t : Bool} (e : t ≡ leb (length d) (length x)) where
-  pub too_long : t ≡ false → Written d x 0 x
-  too_long f = unwritten d x (leb-false (length d) (length x) (sym e ∙ f))
-
   pub has_room : t ≡ true → length d ≤ length x
   has_room f = leb-true (length d) (length x) (sym e ∙ f)
 
@@ -206,19 +157,6 @@ module _ {x s y : List ℕ} {i at : ℕ} (p : Putting x s y i at) where
     pub put_on : {r : ℕ} {z : List ℕ} → Put y at (shown_byte (get_or s i 0)) r z → Putting x s z (i + 1) r
     put_on q = record { within = omega arith; fits = p.fits; puts = rw (one_more s i h) (both p.puts (shown_byte (get_or s i 0)) long q) }
 
-  pub as_long : length y ≡ length x
-  as_long = kept p.puts (omega (arith, p.fits, length_shown))
-    where
-      length_shown : 0 + length (shown (take i s)) ≤ length x
-      length_shown =
-          let a = length-append (shown (take i s)) (shown (drop i s)) in
-          let e = ap (λ (l : List ℕ). length (shown l)) (take-append-drop i s) in
-          let f = ap length (shown_append (take i s) (drop i s)) in
-          omega (arith, p.fits)
-
-  pub put_ends : length s ≤ i → Written (shown s) x at y
-  put_ends h = written p.fits (rw (take_all i s h) at p.puts)
-
 -- a byte that is shown as itself, and a field of such bytes
 own_byte : (b : ℕ) → own b ≡ true → shown_byte b ≡ b ∷ []
 unfolding shown_byte unicode
@@ -227,7 +165,7 @@ own_byte b e =
     let p = both_true (leb 0x20 b) (leb b 0x7e) o.0 in
     let low = leb-true 0x20 b p.0 in
     let high = leb-true b 0x7e p.1 in
-    rw (p.0, p.1, ne_eqb b 0 (λ z. omega arith), not-true (eqb b 0x5c) o.1, lt-ltb b 0x80 (omega arith))
+    rw (not-true (eqb b 0x5c) o.1, p.0, p.1, lt-ltb b 0x80 (omega arith))
 
 own_shown : (s : List ℕ) → every own s ≡ true → shown s ≡ s
 own_shown [] e = refl

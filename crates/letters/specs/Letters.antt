@@ -1,6 +1,6 @@
 -- How a field of a message is shown in UTF-8: the letters of code page 852 that are text (01, fault 2), and a mark for any other byte.
 -- Assumes nothing.
-use Rattle.std.specs.Prelude.{ℕ, ◌+◌, ◌/◌, ◌%◌, Bool, cond, not, ◌&&◌, ◌||◌, List, [], ◌∷◌, ◌++◌, eqb, ltb}
+use Rattle.std.specs.Prelude.{ℕ, ◌+◌, ◌/◌, ◌%◌, Bool, cond, not, ◌&&◌, List, [], ◌∷◌, ◌++◌, eqb, ltb, Option, Some, None}
 use Rattle.text.specs.Text.{plain}
 
 -- a byte of code page 852, and the Unicode number of its letter
@@ -34,14 +34,14 @@ hungarian =
     ∷ is 0xfb 0x171
     ∷ []
 
--- the number of a byte's letter in a table, 0 where it has none
-abbrev pub number_in : List Letter → ℕ → ℕ
-number_in [] b = 0
-number_in (l ∷ ls) b = cond (eqb b l.byte) l.number (number_in ls b)
+-- the number of a byte's letter in a table, where it has one
+abbrev pub number_in : List Letter → ℕ → Option ℕ
+number_in [] b = None
+number_in (l ∷ ls) b = cond (eqb b l.byte) (Some l.number) (number_in ls b)
 
--- the Unicode number of a byte that may stand in text: 20h to 7Eh are themselves; 0 for any other byte
-unfoldable pub unicode : ℕ → ℕ
-unicode b = cond (plain b) b (number_in hungarian b)
+-- the Unicode number of a byte that may stand in text: 20h to 7Eh are themselves
+unfoldable pub unicode : ℕ → Option ℕ
+unicode b = cond (plain b) (Some b) (number_in hungarian b)
 
 -- a number below 800h in UTF-8: one byte below 80h, two from there on
 abbrev pub utf8 : ℕ → List ℕ
@@ -56,16 +56,21 @@ abbrev pub mark : ℕ → List ℕ
 mark b = 0x5c ∷ 0x78 ∷ hex (b / 16) ∷ hex (b % 16) ∷ []
 
 -- a byte has a mark where it is no text; so has the backslash, so that each backslash that is shown begins a mark
-abbrev pub is_marked : ℕ → Bool
-is_marked b = eqb (unicode b) 0 || eqb b 0x5c
+abbrev pub letter : ℕ → Option ℕ
+letter b = cond (eqb b 0x5c) None (unicode b)
 
 -- a byte that is shown as itself: 20h to 7Eh without the backslash
 abbrev pub own : ℕ → Bool
 own b = plain b && not (eqb b 0x5c)
 
+-- by the number of its letter, or as a mark
+abbrev pub letter_or_mark : Option ℕ → ℕ → List ℕ
+letter_or_mark None b = mark b
+letter_or_mark (Some n) b = utf8 n
+
 -- how a byte is shown
 unfoldable pub shown_byte : ℕ → List ℕ
-shown_byte b = cond (is_marked b) (mark b) (utf8 (unicode b))
+shown_byte b = letter_or_mark (letter b) b
 
 -- how a field is shown
 abbrev pub shown : List ℕ → List ℕ

@@ -4,63 +4,61 @@
 ghost use Rattle.std.specs.Prelude.{◌≡◌, [], ◌∷◌, ◌+◌, ◌≤◌, ◌<◌, length, leb};
 ghost use Rattle.base.specs.Bytes.{every};
 ghost use Rattle.base.specs.Put.{Written, Put};
-ghost use Rattle.letters.specs.Letters.{hungarian, number_in, unicode, hex, mark, utf8, is_marked, own, shown_byte, shown};
+ghost use Rattle.letters.specs.Letters.{hungarian, number_in, unicode, letter, hex, mark, utf8, own, shown_byte, shown};
 
-// The Unicode number of one of the eighteen Hungarian letters, 0 for any other byte.
-fn hungarian(b: u8) -> u16
+// The Unicode number of one of the eighteen Hungarian letters.
+fn hungarian(b: u8) -> Option<u16>
     ensures { result ≡ number_in hungarian b }
 {
     match b {
-        0x81 => 0xfc,
-        0x82 => 0xe9,
-        0x8a => 0x150,
-        0x8b => 0x151,
-        0x90 => 0xc9,
-        0x94 => 0xf6,
-        0x99 => 0xd6,
-        0x9a => 0xdc,
-        0xa0 => 0xe1,
-        0xa1 => 0xed,
-        0xa2 => 0xf3,
-        0xa3 => 0xfa,
-        0xb5 => 0xc1,
-        0xd6 => 0xcd,
-        0xe0 => 0xd3,
-        0xe9 => 0xda,
-        0xeb => 0x170,
-        0xfb => 0x171,
-        _ => 0,
+        0x81 => Some(0xfc),
+        0x82 => Some(0xe9),
+        0x8a => Some(0x150),
+        0x8b => Some(0x151),
+        0x90 => Some(0xc9),
+        0x94 => Some(0xf6),
+        0x99 => Some(0xd6),
+        0x9a => Some(0xdc),
+        0xa0 => Some(0xe1),
+        0xa1 => Some(0xed),
+        0xa2 => Some(0xf3),
+        0xa3 => Some(0xfa),
+        0xb5 => Some(0xc1),
+        0xd6 => Some(0xcd),
+        0xe0 => Some(0xd3),
+        0xe9 => Some(0xda),
+        0xeb => Some(0x170),
+        0xfb => Some(0x171),
+        _ => None,
     }
 }
 
-// The Unicode number of a byte of code page 852 that may stand in text, 0 for any other byte.
-fn unicode(b: u8) -> u16
+// The Unicode number of a byte of code page 852 that may stand in text.
+#[tactic(auto, unfolding(crate::specs::Letters::unicode))]
+fn unicode(b: u8) -> Option<u16>
     ensures { result ≡ unicode b }
 {
     if (b >= 0x20) & (b <= 0x7e) {
-        return b as u16;
+        return Some(b as u16);
     }
     hungarian(b)
 }
 
-// The byte is shown as a mark.
-fn is_marked(b: u8) -> bool
-    ensures { result ≡ is_marked b }
+// The Unicode number of a byte that isn't shown as a mark.
+fn letter(b: u8) -> Option<u16>
+    ensures { result ≡ letter b }
 {
-    (unicode(b) == 0) | (b == b'\\')
+    if b == b'\\' { None } else { unicode(b) }
 }
 
 // How many bytes a byte is shown by.
 fn width(b: u8) -> usize
     ensures { (result ≡ length (shown_byte b)) × (result ≤ 4) }
 {
-    if is_marked(b) {
-        return 4;
+    match letter(b) {
+        None => 4,
+        Some(n) => { if n < 0x80 { 1 } else { 2 } }
     }
-    if unicode(b) < 0x80 {
-        return 1;
-    }
-    2
 }
 
 // A field is shown by at most so many bytes.
@@ -68,14 +66,12 @@ fn fits(s: &[u8], room: usize) -> bool
     ensures { result ≡ leb (length (shown s.now)) room }
 {
     let mut left = room;
-    let mut i = 0;
-    while i < s.len() {
-        let w = width(s[i]);
+    for b in s {
+        let w = width(*b);
         if left < w {
             return false;
         }
         left -= w;
-        i += 1;
     }
     true
 }
@@ -108,6 +104,7 @@ fn put_mark(out: &mut [u8], at: usize, b: u8) -> usize
     put_one(out, i, hex(b % 16))
 }
 
+// Kept: UTF-8 by hand: `char::encode_utf8` takes a char, which a number is only after a test, and gives a str; no plainer for two bytes.
 // A number below 800h in UTF-8 at a place of the output.
 fn put_utf8(out: &mut [u8], at: usize, n: u16) -> usize
     requires { (at + length (utf8 n) ≤ length out.old) × (n < 0x800) }
@@ -125,10 +122,10 @@ fn put_byte(out: &mut [u8], at: usize, b: u8) -> usize
     requires { at + length (shown_byte b) ≤ length out.old }
     ensures { Put out.old at (shown_byte b) result out.new }
 {
-    if is_marked(b) {
-        return put_mark(out, at, b);
+    match letter(b) {
+        None => put_mark(out, at, b),
+        Some(n) => put_utf8(out, at, n),
     }
-    put_utf8(out, at, unicode(b))
 }
 
 // A field byte by byte, as it is shown, at the front of the output, and its length; where the output is too short, 0, and it stays as it was.
@@ -139,10 +136,8 @@ fn put_each(out: &mut [u8], s: &[u8]) -> usize
         return 0;
     }
     let mut at = 0;
-    let mut i = 0;
-    while i < s.len() {
-        at = put_byte(out, at, s[i]);
-        i += 1;
+    for b in s {
+        at = put_byte(out, at, *b);
     }
     at
 }
@@ -152,15 +147,14 @@ fn is_own(s: &[u8]) -> bool
     ensures { result ≡ every own s.now }
 {
     let mut ok = true;
-    let mut i = 0;
-    while i < s.len() {
-        let b = s[i];
-        ok = ok & ((b >= 0x20) & (b <= 0x7e) & !(b == b'\\'));
-        i += 1;
+    for b in s {
+        ok &= (*b >= 0x20) & (*b <= 0x7e) & (*b != b'\\');
     }
     ok
 }
 
+// Kept: a length of 0 where the output is too short, and not an Option: the caller goes on from the place after what was put, where 0 is right
+// as it stands; no plainer.
 // A field as it is shown at the front of the output, and its length; where the output is too short, 0, and it stays as it was. Most
 // fields are shown as they are, which a quick pass finds.
 pub fn put(out: &mut [u8], s: &[u8]) -> usize

@@ -2,8 +2,8 @@
 -- Assumes nothing.
 use mathlib.Core.Path.{◌≡◌}
 use mathlib.Core.Logic.{⊎_elim}
-use Prim.Native.Nat.{ℕ, zero, suc, ◌+◌, ◌/◌, ◌^◌, ◌<◌, ◌≤◌}
-use native.Mathlib.Nat.{pow-suc, div-lt_iff_lt-mul}
+use Prim.Native.Nat.{ℕ, zero, suc, ◌+◌, ◌*◌, ◌/◌, ◌^◌, ◌<◌, ◌≤◌}
+use native.Mathlib.Nat.{pow-suc, pow-le-pow_right, div-lt_iff_lt-mul}
 use native.Mathlib.Numerals.{add-one}
 use native.Mathlib.Omega.{arith}
 use lib.Dec.{lit<}
@@ -43,26 +43,23 @@ pub enough : (n : ℕ) → n < 18446744073709551616 → n < 10 ^ places n
 unfolding places
 enough n h = enough_in 19 n (omega arith)
 
--- the digits passed, with those of what is left in up to k places more, are all
-pub record Counted (n left w : ℕ) : Type 0 where
-  pub k : ℕ
-  pub all : w + places_in k left ≡ places n + 1
-  pub small : left < 10 ^ suc k
+-- a number from the k-th power of ten on, and below the next, has one digit more than k
+pub exact : (k j n : ℕ) → 10 ^ k ≤ n → n < 10 * 10 ^ k → k ≤ j → places_in j n ≡ k + 1
+exact zero j n l h m = last j n (omega arith)
+exact (suc k) zero n l h m = absurd (omega arith)
+exact (suc k) (suc j) n l h m =
+    let p : 10 ^ suc k ≡ 10 ^ k * 10 = pow-suc 10 k in
+    let low : 10 ^ k ≤ n / 10 = omega arith in
+    let high : n / 10 < 10 * 10 ^ k = omega arith in
+    let z : 0 ≤ k = omega arith in
+    let one : 10 ^ 0 ≤ 10 ^ k = pow-le-pow_right (lit< tt) z in
+    let i = exact k j (n / 10) low high (omega arith) in
+    omega (arith, turn j n (omega arith))
 
-pub start : (n : ℕ) → n < 18446744073709551616 → Counted n n 1
+pub by_power : (k n : ℕ) → 10 ^ k ≤ n → n < 10 * 10 ^ k → k < 20 → k + 1 ≡ places n
 unfolding places
-start n h = record { k = 19; all = omega arith; small = omega arith }
+by_power k n l h m = let e = exact k 19 n l h (omega arith) in omega arith
 
-go_on : (n left w k : ℕ) → w + places_in k left ≡ places n + 1 → left < 10 ^ suc k → 10 ≤ left → Counted n (left / 10) (w + 1)
-go_on n left w zero e h l = absurd (omega arith)
-go_on n left w (suc k) e h l = record { k = k; all = omega (arith, turn k left l); small = tenth (suc k) left h }
-
-module _ {n left w : ℕ} (c : Counted n left w) where
-  pub on : 10 ≤ left → Counted n (left / 10) (w + 1)
-  on h = go_on n left w c.k c.all c.small h
-
-  pub ends : left < 10 → w ≡ places n
-  ends h = omega (arith, last c.k left h)
-
-  pub room : w ≤ 21
-  room = omega (arith, few n)
+pub none : (n : ℕ) → n ≡ 0 → 1 ≡ places n
+unfolding places
+none n h = let e = last 19 n (omega arith) in omega arith

@@ -19,11 +19,7 @@ use frame::Status;
 pub(crate) fn width(least: usize, n: u64) -> usize
     ensures { (result ≡ wide least n) × (result ≤ least + 20) × (n < 10 ^ result) }
 {
-    let w = places(n);
-    if w < least {
-        return least;
-    }
-    w
+    places(n).max(least)
 }
 
 // A word, a number of at least so many digits, 0Ah.
@@ -59,8 +55,7 @@ fn put_address(out: &mut [u8], at: usize, s: Status) -> usize
     requires { at + length (address_lines s) ≤ length out.old }
     ensures { Put out.old at (address_lines s) result out.new }
 {
-    let id = s.id;
-    let i = put_order(out, at, &id);
+    let i = put_order(out, at, &s.id);
     put_three(out, i, b"DUPLICATE ", &[s.duplicate], b"\n")
 }
 
@@ -80,10 +75,8 @@ fn put_counts(out: &mut [u8], at: usize, s: Status) -> usize
     requires { at + length (count_lines s) ≤ length out.old }
     ensures { Put out.old at (count_lines s) result out.new }
 {
-    let a = s.accepted;
-    let b = s.refused;
-    let i = put_totals(out, at, b"ACCEPTED ", a);
-    let i = put_totals(out, i, b"REFUSED ", b);
+    let i = put_totals(out, at, b"ACCEPTED ", s.accepted);
+    let i = put_totals(out, i, b"REFUSED ", s.refused);
     put_fact(out, i, b"REFERENCES ", 1, s.references as u64)
 }
 
@@ -99,19 +92,17 @@ fn order_length(id: &[u8]) -> usize
 fn head_length(s: Status) -> usize
     ensures { (result ≡ length (address_lines s ++ own_lines s)) × (result ≤ 200) }
 {
-    let id = s.id;
     let n = width(8, s.date as u64) + width(1, s.number as u64);
-    38 + order_length(&id) + n + width(6, s.time as u64) + width(2, s.code as u64)
+    38 + order_length(&s.id) + n + width(6, s.time as u64) + width(2, s.code as u64)
 }
 
 // How long the lines of the foot are.
 fn counts_length(s: Status) -> usize
     ensures { (result ≡ length (count_lines s)) × (result ≤ 200) }
 {
-    let a = s.accepted;
-    let b = s.refused;
-    let n = places(a.count) + places(a.sum) + places(b.count) + places(b.sum);
-    33 + n + width(1, s.references as u64)
+    let accepted = places(s.accepted.count) + places(s.accepted.sum);
+    let refused = places(s.refused.count) + places(s.refused.sum);
+    33 + accepted + refused + width(1, s.references as u64)
 }
 
 // What a STATUS says, without its references, at the front of the output; the length, or 0 where it is too short, and then it

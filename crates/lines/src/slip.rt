@@ -10,13 +10,10 @@ use lent::Refusal;
 pub(crate) fn places(n: u64) -> usize
     ensures { (result ≡ places n) × (result ≤ 20) × (n < 10 ^ result) }
 {
-    let mut left = n;
-    let mut w = 1;
-    while left >= 10 {
-        left = left / 10;
-        w += 1;
+    match n.checked_ilog10() {
+        Some(k) => k as usize + 1,
+        None => 1,
     }
-    w
 }
 
 // How many digits a message code has.
@@ -26,6 +23,8 @@ fn code_width(code: u8) -> usize
     if code < 100 { 2 } else { 3 }
 }
 
+// Kept: bytes put by hand and no Display, here and wherever lines are put: `Written` says that an output that is too short stays as it was,
+// where a `write!` that fails has written a part, so that the length is found before in either form.
 // A word, a number of so many digits, 0Ah.
 pub(crate) fn put_line(out: &mut [u8], at: usize, word: &[u8], w: usize, n: u64) -> usize
     requires { (at + length (line word.now w n) ≤ length out.old) × (n < 10 ^ w) }
@@ -46,14 +45,16 @@ pub(crate) fn put_totals(out: &mut [u8], at: usize, word: &[u8], t: Totals) -> u
     put_line(out, i, b" ", places(t.sum), t.sum)
 }
 
+// Kept: a number, here and in `put_front`: `Closing` has it so, and it is looked at once.
 // The line of the kind that the head told: 1 is BESZED, any other number ATUTAL.
 fn kind_line(kind: u32) -> [u8; 12]
     ensures { result ≡ kind_line kind }
 {
     if kind == kinds::BESZED {
-        return *b"KIND BESZED\n";
+        *b"KIND BESZED\n"
+    } else {
+        *b"KIND ATUTAL\n"
     }
-    *b"KIND ATUTAL\n"
 }
 
 // The lines of the kind and of the message code, at the front of the output.
@@ -69,13 +70,13 @@ fn put_front(out: &mut [u8], kind: u32, code: u8) -> usize
 fn slip_length(k: Closing) -> usize
     ensures { result ≡ length (slip_of k) }
 {
-    let a = k.accepted;
-    let b = k.refused;
-    let accepted = places(a.count) + places(a.sum);
-    let refused = places(b.count) + places(b.sum);
+    let accepted = places(k.accepted.count) + places(k.accepted.sum);
+    let refused = places(k.refused.count) + places(k.refused.sum);
     48 + code_width(k.code) + accepted + refused + places(k.zeros)
 }
 
+// Kept: a length of 0 where the output is too short, and not an Option, here and at what is put "likewise": no text is empty, and each
+// caller prints so many bytes, so that an Option would be taken apart at each for the same 0; no plainer.
 // The five lines of a closing, at the front of the output; their length, or 0 where it is too short, and then it stays as it was.
 pub fn put_closing(out: &mut [u8], k: Closing) -> usize
     ensures { Written (slip_of k) out.old result out.new }
@@ -83,11 +84,9 @@ pub fn put_closing(out: &mut [u8], k: Closing) -> usize
     if out.len() < slip_length(k) {
         return 0;
     }
-    let a = k.accepted;
-    let b = k.refused;
     let i = put_front(out, k.kind, k.code);
-    let i = put_totals(out, i, b"ACCEPTED ", a);
-    let i = put_totals(out, i, b"REFUSED ", b);
+    let i = put_totals(out, i, b"ACCEPTED ", k.accepted);
+    let i = put_totals(out, i, b"REFUSED ", k.refused);
     put_line(out, i, b"ZERO ", places(k.zeros), k.zeros)
 }
 
@@ -95,7 +94,7 @@ pub fn put_closing(out: &mut [u8], k: Closing) -> usize
 pub fn put_refusal(out: &mut [u8], r: Refusal) -> usize
     ensures { Written (refusal_line r) out.old result out.new }
 {
-    let n = lent::number(r) as u64;
+    let n = u64::from(u8::from(r));
     let w = places(n);
     if out.len() < 9 + w {
         return 0;

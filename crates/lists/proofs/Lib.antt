@@ -1,4 +1,3 @@
 pub mod Ascent
 pub mod Halves
 pub mod Member
-pub mod Known

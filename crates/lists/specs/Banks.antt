@@ -1,13 +1,13 @@
 -- The bank list and the barred list: numbers of at most eight and of at most three digits in strictly ascending order (01, The job; 02 #105),
 -- and the search by halves.
 -- Assumes nothing.
-use Rattle.std.specs.Prelude.{ℕ, zero, suc, ◌-◌, ◌/◌, Bool, true, false, cond, ◌&&◌, ◌||◌, List, [], ◌∷◌, length, get_or, take, drop, leb, ltb, eqb}
+use Rattle.std.specs.Prelude.{ℕ, zero, suc, ◌-◌, ◌/◌, Bool, true, cond, ◌&&◌, List, [], ◌∷◌, length, get_or, take, drop, leb, ltb, eqb}
 use Rattle.base.specs.Bytes.{every}
+use Rattle.base.specs.Groups.{some}
 
 -- x is an element
 abbrev pub member : ℕ → List ℕ → Bool
-member x [] = false
-member x (y ∷ ys) = eqb y x || member x ys
+member x = some (λ y. eqb y x)
 
 -- each element is above the one before it, and the first above p
 abbrev pub above : ℕ → List ℕ → Bool

@@ -2,7 +2,6 @@
 #![tactic(auto)]
 
 ghost use Rattle.std.specs.Prelude.{◌≡◌, true, ◌+◌, ◌≤◌, length, take, drop};
-ghost use Rattle.base.specs.Bytes.{same};
 ghost use Rattle.lists.specs.Banks.{ascends, ascends_to, is_bank_list, is_barred_list, found_in, member};
 ghost use Rattle.lists.specs.Known.{is_known_list, is_known};
 
@@ -10,17 +9,14 @@ ghost use Rattle.lists.specs.Known.{is_known_list, is_known};
 fn in_order(list: &[u32]) -> bool
     ensures { result ≡ ascends list.now }
 {
-    if list.len() == 0 {
+    let Some((first, rest)) = list.split_first() else {
         return true;
-    }
+    };
     let mut ok = true;
-    let mut prev = list[0];
-    let mut i = 1;
-    while i < list.len() {
-        let x = list[i];
-        ok = ok & (prev < x);
-        prev = x;
-        i += 1;
+    let mut prev = *first;
+    for x in rest {
+        ok &= prev < *x;
+        prev = *x;
     }
     ok
 }
@@ -58,13 +54,7 @@ fn one_of(list: &[u32], from: usize, n: usize, code: u32) -> bool
     requires { from + n ≤ length list.now }
     ensures { result ≡ member code (take n (drop from list.now)) }
 {
-    let mut found = false;
-    let mut i = 0;
-    while i < n {
-        found = found | (list[from + i] == code);
-        i += 1;
-    }
-    found
+    list[from..from + n].contains(&code)
 }
 
 // Whether the code is among the n numbers from a place on, by halving more than eight of them: which half needs no branch.
@@ -98,35 +88,9 @@ pub fn is_known_list(list: &[u8]) -> bool
     list.len() % 25 == 0
 }
 
-// Whether one entry of the known list is the identifier.
-fn is_id(entry: &[u8], id: [u8; 25]) -> bool
-    ensures { result ≡ same entry.now id }
-{
-    if entry.len() != 25 {
-        return false;
-    }
-    let mut i = 0;
-    while i < 25 {
-        if entry[i] != id[i] {
-            return false;
-        }
-        i += 1;
-    }
-    true
-}
-
 // Whether the identifier is in the known list (01, Faults of the whole message, 3); bytes after the last whole entry don't count.
 pub fn is_known(list: &[u8], id: [u8; 25]) -> bool
     ensures { result ≡ is_known list.now id }
 {
-    let n = list.len() / 25;
-    let mut k = 0;
-    while k < n {
-        let at = k * 25;
-        if is_id(&list[at..at + 25], id) {
-            return true;
-        }
-        k += 1;
-    }
-    false
+    list.chunks_exact(25).any(|entry| entry == id.as_slice())
 }

@@ -1,19 +1,20 @@
 -- A message in any pieces through the calls over a session gives what the call over the whole message gives.
 -- Assumes nothing.
 use mathlib.Core.Path.{◌≡◌, refl, sym, ap, ◌∙◌}
-use mathlib.Core.Bool.{Bool, true, false, cond, false≢true}
+use mathlib.Core.Bool.{Bool, true, false, false≢true}
 use mathlib.Core.List.{List}
 use Prim.Native.Nat.{ℕ, ◌≤◌}
 use lib.ListN.{length, replicate}
-use lib.Dec.{eqb}
 use borrow.Author.Tests.{eq-eqb}
 use Rattle.lent.specs.Lent.{Lists, Lent, list_refused, outcome_number}
 use Rattle.frame.specs.Verdict.{verdict, table_after}
 use Rattle.frame.specs.Machine.{joined}
 use Rattle.kinds.specs.Codes.{rules}
 use Rattle.judge.specs.declared.Session.{Session}
-use Rattle.lent.specs.declared.Outcome.TheVariants.{Done}
-use Rattle.judge.specs.declared.Judged.{Judged}
+use Rattle.std.proofs.Common.{Result, Ok}
+use Rattle.judge.specs.declared.Closed.{Closed}
+use Rattle.frame.specs.declared.Closing.{Closing}
+use Rattle.lent.specs.declared.Refusal.{Refusal}
 use Rattle.judge.specs.Session.{
   most,
   state_of,
@@ -33,14 +34,14 @@ use Rattle.judge.specs.Session.{
   judged_of,
   table_judged,
 }
-use Rattle.judge.specs.Feeding.{fed, judged_from}
+use Rattle.judge.specs.Feeding.{fed}
 use Rattle.kinds.proofs.Instance.{sound}
 use Rattle.judge.proofs.Ranges.{kept_run, kept_session, open_passes, opened_in_range, taken_in_range}
 use Rattle.judge.proofs.Great.{Passing, great}
 use Rattle.packed.specs.Packed.{packed_bytes, is_packed, unpacked}
 use Rattle.packed.proofs.Fields.{long}
 use Rattle.packed.proofs.Taking.{closed_out}
-use Rattle.nshanvekh.specs.Session.{OpenedAs, closing_numbers, ClosedAs}
+use Rattle.nshanvekh.specs.Session.{OpenedAs, told, closing_numbers, closing_id, ClosedAs}
 use Rattle.nshanvekh.specs.Pieces.{Given, none, more, Whole}
 
 -- bytes that hold an open session have its size
@@ -52,14 +53,14 @@ open_long x h = go (is_packed x) refl h
     go true e h = long x e
     go false e h = absurd (false≢true (sym closed_out ∙ rw e at h))
 
-module _ (l : Lists) (g : list_refused l ≡ Done) where
+module _ (l : Lists) (g : list_refused l ≡ Ok tt) where
   -- an open session takes a piece, with a table of its length
   module _ (s : Session) (t p : List ℕ) (i : in_range s ≡ true) (h : length t ≡ s.room) where
-    passes : piece_refused s l (length t) ≡ Done
+    passes : piece_refused s l (length t) ≡ Ok tt
     unfolding piece_refused
     passes = rw (i, g, eq-eqb (length t) s.room h)
 
-    takes : taken s p l t ≡ give Done (session_of s.day s.room (after s p l t))
+    takes : taken s p l t ≡ give (Ok tt) (session_of s.day s.room (after s p l t))
     unfolding taken
     takes = rw passes
 
@@ -101,7 +102,7 @@ module _ (l : Lent) (t : List ℕ) (g : Passing l) (h : length t ≤ most) where
   abbrev e : ℕ
   e = l.day
 
-  passed : open_refused e t ≡ Done
+  passed : open_refused e t ≡ Ok tt
   passed = open_passes e t g.day h
 
   opens : (outcome_number (opened e t).outcome ≡ 0) × (length t ≡ (opened e t).next.room)
@@ -109,7 +110,7 @@ module _ (l : Lent) (t : List ℕ) (g : Passing l) (h : length t ≤ most) where
   opens = rw passed (refl, refl)
 
   module _ (m : List ℕ) where
-    judged : judged_of l t m ≡ judged_from (closed_as (verdict (rules l) t m))
+    judged : judged_of l t m ≡ (closed_as (verdict (rules l) t m)).closing
     unfolding judged_of whole_refused
     judged = rw (passed, g.lists)
 
@@ -129,8 +130,8 @@ module _ (l : Lent) (t : List ℕ) (g : Passing l) (h : length t ≤ most) where
       let f : Fed l.lists g.lists (opened e t).next t ps rs x₂ t' =
       rw u at (feeds l.lists g.lists d (rw u (opened_in_range e t g.day h)) (rw u opens.1)) in
       let w = great l t ps g h in
-      let j : judged_from (closed_of (unpacked x₂)) ≡ judged_of l t m =
-      ap (λ (s : Session). judged_from (closed_of s)) f.session ∙ ap judged_from w.0 ∙ sym (judged m) in
+      let j : (closed_of (unpacked x₂)).closing ≡ judged_of l t m =
+      ap (λ (s : Session). (closed_of s).closing) f.session ∙ ap (λ (c : Closed). c.closing) w.0 ∙ sym (judged m) in
       let p = eq-eqb (length x₂) packed_bytes (open_long x₂ f.range) in
       let n = eq-eqb (length ns) 7 hn in
       let i = eq-eqb (length id) 25 hi in
@@ -138,9 +139,9 @@ module _ (l : Lent) (t : List ℕ) (g : Passing l) (h : length t ≤ most) where
         opening = a.answer ∙ rw q opens.0;
         pieces = f.numbers;
         closing = record {
-          answer = c.answer ∙ rw (p, n, i) (ap (λ (v : Judged). outcome_number v.outcome) j);
+          answer = c.answer ∙ rw (p, n, i) (ap (λ (v : Result Closing Refusal). outcome_number v) j);
           table = f.table ∙ w.1 ∙ rw (n, i) (sym (judged_table m));
-          numbers = c.numbers ∙ ap (λ (v : Judged). cond (eqb r 0) (closing_numbers v.closing) ns) j;
-          identifier = c.identifier ∙ ap (λ (v : Judged). cond (eqb r 0) v.closing.id id) j;
+          numbers = c.numbers ∙ rw (p, n, i) (ap (λ (v : Result Closing Refusal). told v closing_numbers ns) j);
+          identifier = c.identifier ∙ rw (p, n, i) (ap (λ (v : Result Closing Refusal). told v closing_id id) j);
         };
       }

@@ -1,25 +1,20 @@
 -- The calls for cover answers: a wrong size, else what judging and writing tell.
 -- Assumes nothing.
-use mathlib.Core.Path.{◌≡◌, sym, ap, ◌∙◌}
-use mathlib.Core.List.{List, [], ◌∷◌}
+use mathlib.Core.Path.{◌≡◌, ap, ◌∙◌}
+use mathlib.Core.List.{List}
 use Prim.Native.Nat.{ℕ}
 use lib.ListN.{length}
-use lib.Seq.{sets}
 use borrow.Author.Tests.{eq-eqb, ne_eqb}
-use Rattle.text.specs.Text.{with_bytes}
-use Rattle.lent.specs.Lent.{outcome_number}
-use Rattle.lent.specs.declared.Outcome.{Outcome}
-use Rattle.cover.specs.declared.Answer.{Answer}
-use Rattle.cover.specs.declared.Answer.TheVariants.{Judged}
-use Rattle.cover.specs.Judging.{answer_number, JudgedAs}
+use Rattle.lent.specs.Lent.{Outcome, outcome_number}
+use Rattle.std.proofs.Common.{Result}
+use Rattle.lent.specs.declared.Refusal.{Refusal}
+use Rattle.cover.specs.declared.Judged.{Judged}
+use Rattle.cover.specs.Judging.{JudgedAs}
+use Rattle.nshanvekh.specs.Session.{told}
 use Rattle.status.specs.declared.reply.Particulars.{Particulars}
 use Rattle.status.specs.CoverStatus.{fedsta_outcome, fedsta_output, WroteAs}
 use Rattle.nshanvekh.specs.Message.{particulars_of}
 use Rattle.nshanvekh.specs.Covers.{fedjel_numbers, FedjelTold, FedjelAs, is_yes, FedstaAs}
-use Rattle.nshanvekh.proofs.Stores.{all_set, all_put}
-
-pub fedjel_written : {a : Answer} {ns : List ℕ} {c n : ℕ} → a ≡ Judged c n → length ns ≡ 2 → FedjelTold a ns 0 (sets ns 0 (c ∷ n ∷ []))
-fedjel_written {a} {ns} {c} {n} e l = record { answer = rw e; numbers = rw e (all_set ns (c ∷ n ∷ []) l) }
 
 module _ {m : List ℕ} {e : ℕ} {l t ns : List ℕ} where
   pub fedjel_wrong : (length ns ≡ 2 → ⊥) → FedjelAs m e l t ns 99 t ns
@@ -27,14 +22,14 @@ module _ {m : List ℕ} {e : ℕ} {l t ns : List ℕ} where
       let q = ne_eqb (length ns) 2 h in
       record { answer = rw q; table = rw q; numbers = rw q }
 
-  pub fedjel_told : length ns ≡ 2 → {a : Answer} {t' : List ℕ} → JudgedAs e l m t a t' → {r : ℕ} {ns' : List ℕ} → FedjelTold a ns r ns'
+  pub fedjel_told : length ns ≡ 2 → {a : Result Judged Refusal} {t' : List ℕ} → JudgedAs e l m t a t' → {r : ℕ} {ns' : List ℕ} → FedjelTold a ns r ns'
       → FedjelAs m e l t ns r t' ns'
   fedjel_told h w o =
       let q = eq-eqb (length ns) 2 h in
       record {
-        answer = rw q (o.answer ∙ ap answer_number w.result);
+        answer = rw q (o.answer ∙ ap (λ (y : Result Judged Refusal). outcome_number y) w.result);
         table = rw q w.table;
-        numbers = rw q (o.numbers ∙ ap (λ (y : Answer). fedjel_numbers y ns) w.result);
+        numbers = rw q (o.numbers ∙ ap (λ (y : Result Judged Refusal). told y fedjel_numbers ns) w.result);
       }
 
 module _ {m : List ℕ} {e : ℕ} {l id : List ℕ} {cover d n t count : ℕ} {out : List ℕ} where
@@ -43,12 +38,11 @@ module _ {m : List ℕ} {e : ℕ} {l id : List ℕ} {cover d n t count : ℕ} {o
       let q = ne_eqb (length id) 25 h in
       record { answer = rw q; bytes = rw q }
 
-  pub fedsta_told : length id ≡ 25 → {p : Particulars} → p ≡ particulars_of d n t → (x : List ℕ) {own : List ℕ} → length x ≡ 25 → own ≡ with_bytes x id
+  pub fedsta_told : length id ≡ 25 → {p : Particulars} → p ≡ particulars_of d n t → {own : List ℕ} → own ≡ id
       → {o : Outcome} {out' : List ℕ} → WroteAs e l m own (is_yes cover) p count out o out' → {r : ℕ} → r ≡ outcome_number o
       → FedstaAs m e l id cover d n t count out r out'
-  fedsta_told h {p} u x {own} k f w g =
+  fedsta_told h {p} u {own} i w g =
       let q = eq-eqb (length id) 25 h in
-      let i : own ≡ id = all_put x id own (h ∙ sym k) f in
       let c = is_yes cover in
       record {
         answer = rw q (g ∙ ap outcome_number w.result

@@ -1,5 +1,3 @@
-pub mod Stores
-pub mod Tells
 pub mod Sessions
 pub mod Messages
 pub mod ByPieces

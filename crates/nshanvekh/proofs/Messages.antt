@@ -1,22 +1,23 @@
 -- The calls over a whole message and over a STATUS: a buffer of a wrong size, and what the judge, the writer and the reader give.
 -- Assumes nothing.
-use mathlib.Core.Path.{◌≡◌, refl, ap, ◌∙◌}
-use mathlib.Core.Bool.{true, false, cond, not}
+use mathlib.Core.Path.{◌≡◌, ap, ◌∙◌}
+use mathlib.Core.Bool.{true, false}
 use mathlib.Core.List.{List}
 use Prim.Native.Nat.{ℕ}
 use lib.Dec.{eqb}
 use lib.ListN.{length}
-use borrow.Author.Tests.{not-true, not-false, eq-eqb, ne_eqb, eqb-true}
+use borrow.Author.Tests.{eq-eqb, ne_eqb, eqb-true}
 use Rattle.base.proofs.Every.{both}
 use Rattle.lent.specs.Lent.{Lent, outcome_number}
-use Rattle.judge.specs.declared.Judged.{Judged}
+use Rattle.std.proofs.Common.{Result}
+use Rattle.lent.specs.declared.Refusal.{Refusal}
+use Rattle.frame.specs.declared.Closing.{Closing}
+use Rattle.frame.specs.declared.Status.{Status}
 use Rattle.judge.specs.Session.{JudgedAs}
-use Rattle.status.specs.declared.reply.Answer.{Answer}
 use Rattle.status.specs.declared.reply.Particulars.{Particulars}
-use Rattle.status.specs.Reply.{reply_number, answer as answer_of, output, Replied}
-use Rattle.reading.specs.declared.Read.{Read}
+use Rattle.status.specs.Reply.{answer as answer_of, output, Replied}
 use Rattle.reading.specs.Reading.{ReadAs}
-use Rattle.nshanvekh.specs.Session.{closing_numbers, ClosingTold}
+use Rattle.nshanvekh.specs.Session.{told, closing_numbers, closing_id, ClosingTold}
 use Rattle.nshanvekh.specs.Message.{
   sized_both,
   JudgedNumbers,
@@ -25,65 +26,58 @@ use Rattle.nshanvekh.specs.Message.{
   ReplyTold,
   RepliedAs,
   status_numbers,
+  status_id,
   StatusTold,
   StatusAs,
 }
 
 -- numbers and identifier of the sizes that a call asks for
-pub sizes : (ns : List ℕ) (k : ℕ) (id : List ℕ) → not (sized_both ns k id) ≡ false → (length ns ≡ k) × (length id ≡ 25)
+pub sizes : (ns : List ℕ) (k : ℕ) (id : List ℕ) → sized_both ns k id ≡ true → (length ns ≡ k) × (length id ≡ 25)
 sizes ns k id f =
-    let h = both (eqb (length ns) k) _ (not-false (sized_both ns k id) f) in
+    let h = both (eqb (length ns) k) _ f in
     (eqb-true (length ns) k h.0, eqb-true (length id) 25 h.1)
 
 module _ {m : List ℕ} {l : Lent} {t ns id : List ℕ} where
-  pub judge_wrong : not (sized_both ns 7 id) ≡ true → JudgedNumbers m l t ns id 99 t ns id
-  judge_wrong f =
-      let h = not-true (sized_both ns 7 id) f in
-      record { answer = rw h; table = rw h; numbers = refl; identifier = refl }
+  pub judge_wrong : sized_both ns 7 id ≡ false → JudgedNumbers m l t ns id 99 t ns id
+  judge_wrong f = record { answer = rw f; table = rw f; numbers = rw f; identifier = rw f }
 
-  pub judge_told : not (sized_both ns 7 id) ≡ false → {j : Judged} {t' : List ℕ} → JudgedAs l t m j t' → {n : ℕ} → n ≡ outcome_number j.outcome
-      → {r : ℕ} {ns' id' : List ℕ} → ClosingTold n j.closing ns id r ns' id' → JudgedNumbers m l t ns id r t' ns' id'
-  judge_told f {j} w {n} q {r} o =
-      let h = not-false (sized_both ns 7 id) f in
-      let a : r ≡ n = o.answer in
+  pub judge_told : sized_both ns 7 id ≡ true → {j : Result Closing Refusal} {t' : List ℕ} → JudgedAs l t m j t'
+      → {r : ℕ} {ns' id' : List ℕ} → ClosingTold j ns id r ns' id' → JudgedNumbers m l t ns id r t' ns' id'
+  judge_told f {j} w {r} o =
       record {
-        answer = rw h (a ∙ q ∙ ap (λ (y : Judged). outcome_number y.outcome) w.result);
-        table = rw h w.bytes;
-        numbers = rw a (o.numbers ∙ ap (λ (y : Judged). cond (eqb n 0) (closing_numbers y.closing) ns) w.result);
-        identifier = rw a (o.identifier ∙ ap (λ (y : Judged). cond (eqb n 0) y.closing.id id) w.result);
+        answer = rw f (o.answer ∙ ap (λ (y : Result Closing Refusal). outcome_number y) w.result);
+        table = rw f w.bytes;
+        numbers = rw f (o.numbers ∙ ap (λ (y : Result Closing Refusal). told y closing_numbers ns) w.result);
+        identifier = rw f (o.identifier ∙ ap (λ (y : Result Closing Refusal). told y closing_id id) w.result);
       }
 
 module _ {m : List ℕ} {l : Lent} {d n t : ℕ} {out ns : List ℕ} where
   pub reply_wrong : (length ns ≡ 1 → ⊥) → RepliedAs m l d n t out ns 99 out ns
   reply_wrong h =
       let q = ne_eqb (length ns) 1 h in
-      record { told = rw q; bytes = rw q; numbers = rw q }
+      record { answer = rw q; bytes = rw q; numbers = rw q }
 
-  pub reply_told : length ns ≡ 1 → {p : Particulars} → p ≡ particulars_of d n t → {a : Answer} {out' : List ℕ} → Replied l m p out a out'
+  pub reply_told : length ns ≡ 1 → {p : Particulars} → p ≡ particulars_of d n t → {a : Result ℕ Refusal} {out' : List ℕ} → Replied l m p out a out'
       → {r : ℕ} {ns' : List ℕ} → ReplyTold a ns r ns' → RepliedAs m l d n t out ns r out' ns'
   reply_told h {p} e {a} w o =
       let q = eq-eqb (length ns) 1 h in
       let k : a ≡ answer_of l m (particulars_of d n t) out = w.result ∙ ap (λ (x : Particulars). answer_of l m x out) e in
       record {
-        told = rw q (o.answer ∙ ap reply_number k);
+        answer = rw q (o.answer ∙ ap (λ (y : Result ℕ Refusal). outcome_number y) k);
         bytes = rw q (w.bytes ∙ ap (λ (x : Particulars). output l m x out) e);
-        numbers = rw q (o.numbers ∙ ap (λ (y : Answer). reply_numbers y ns) k);
+        numbers = rw q (o.numbers ∙ ap (λ (y : Result ℕ Refusal). told y reply_numbers ns) k);
       }
 
 module _ {x t ns id : List ℕ} where
-  pub status_wrong : not (sized_both ns 10 id) ≡ true → StatusAs x t ns id 99 t ns id
-  status_wrong f =
-      let h = not-true (sized_both ns 10 id) f in
-      record { answer = rw h; table = rw h; numbers = refl; identifier = refl }
+  pub status_wrong : sized_both ns 10 id ≡ false → StatusAs x t ns id 99 t ns id
+  status_wrong f = record { answer = rw f; table = rw f; numbers = rw f; identifier = rw f }
 
-  pub status_told : not (sized_both ns 10 id) ≡ false → {y : Read} {t' : List ℕ} → ReadAs x t y t' → {n : ℕ} → n ≡ outcome_number y.outcome
-      → {r : ℕ} {ns' id' : List ℕ} → StatusTold n y.status ns id r ns' id' → StatusAs x t ns id r t' ns' id'
-  status_told f {y} w {n} q {r} o =
-      let h = not-false (sized_both ns 10 id) f in
-      let a : r ≡ n = o.answer in
+  pub status_told : sized_both ns 10 id ≡ true → {y : Result Status Refusal} {t' : List ℕ} → ReadAs x t y t'
+      → {r : ℕ} {ns' id' : List ℕ} → StatusTold y ns id r ns' id' → StatusAs x t ns id r t' ns' id'
+  status_told f {y} w {r} o =
       record {
-        answer = rw h (a ∙ q ∙ ap (λ (z : Read). outcome_number z.outcome) w.result);
-        table = rw h w.bytes;
-        numbers = rw a (o.numbers ∙ ap (λ (z : Read). cond (eqb n 0) (status_numbers z.status) ns) w.result);
-        identifier = rw a (o.identifier ∙ ap (λ (z : Read). cond (eqb n 0) z.status.id id) w.result);
+        answer = rw f (o.answer ∙ ap (λ (z : Result Status Refusal). outcome_number z) w.result);
+        table = rw f w.bytes;
+        numbers = rw f (o.numbers ∙ ap (λ (z : Result Status Refusal). told z status_numbers ns) w.result);
+        identifier = rw f (o.identifier ∙ ap (λ (z : Result Status Refusal). told z status_id id) w.result);
       }

@@ -52,7 +52,7 @@ pub reply : {m : List ℕ} {l : Lent} {d n t : ℕ} {out ns : List ℕ} {r : ℕ
     → r ≡ sized_then (sized ns 1) (reply_refusals l m (particulars_of d n t) out)
 reply {m} {l} {d} {n} {t} {out} {ns} w =
     let p = particulars_of d n t in
-    sized_first (sized ns 1) (reply_refusals l m p out) w.told (status.replied l m p out)
+    sized_first (sized ns 1) (reply_refusals l m p out) w.answer (status.replied l m p out)
 
 -- reading a STATUS: 99, 10, 9
 pub read_status : {x t ns id : List ℕ} {r : ℕ} {t' ns' id' : List ℕ} → StatusAs x t ns id r t' ns' id'

@@ -1,8 +1,9 @@
 -- What the calls over a session answer, and what they leave in the memory that was lent (01, Calls and their answers).
 -- Assumes nothing.
-use Rattle.std.specs.Prelude.{ℕ, ◌≡◌, Bool, true, cond, ◌&&◌, List, [], ◌∷◌, length, eqb}
+use Rattle.std.specs.Prelude.{ℕ, ◌≡◌, Bool, true, cond, ◌&&◌, List, [], ◌∷◌, length, eqb, Result, Ok, Err}
 use Rattle.frame.specs.declared.Closing.{Closing}
 use Rattle.lent.specs.Lent.{Lists, outcome_number}
+use Rattle.lent.specs.declared.Refusal.{Refusal}
 use Rattle.judge.specs.Session.{opened, taken, table_taken, closed_of}
 use Rattle.packed.specs.Packed.{packed_bytes, bytes_of, unpacked}
 
@@ -35,11 +36,19 @@ pub record PieceAs (x p : List ℕ) (l : Lists) (t : List ℕ) (r : ℕ) (x' t' 
 unfoldable pub closing_numbers : Closing → List ℕ
 closing_numbers k = k.code ∷ k.accepted.count ∷ k.accepted.sum ∷ k.refused.count ∷ k.refused.sum ∷ k.zeros ∷ k.kind ∷ []
 
--- what a closing tells beside the call's number
-pub record ClosingTold (n : ℕ) (k : Closing) (ns id : List ℕ) (r : ℕ) (ns' id' : List ℕ) : Type 0 where
-  pub answer : r ≡ n
-  pub numbers : ns' ≡ if_done n (closing_numbers k) ns
-  pub identifier : id' ≡ if_done n k.id id
+-- what is written of what a call gives; what stood there stays where it is refused
+abbrev pub told : {A : Type 0} → Result A Refusal → (A → List ℕ) → List ℕ → List ℕ
+told (Ok a) f old = f a
+told (Err r) f old = old
+
+abbrev pub closing_id : Closing → List ℕ
+closing_id k = k.id
+
+-- what closing tells
+pub record ClosingTold (k : Result Closing Refusal) (ns id : List ℕ) (r : ℕ) (ns' id' : List ℕ) : Type 0 where
+  pub answer : r ≡ outcome_number k
+  pub numbers : ns' ≡ told k closing_numbers ns
+  pub identifier : id' ≡ told k closing_id id
 
 -- a session, seven numbers, an identifier
 abbrev pub sized_all : List ℕ → List ℕ → List ℕ → Bool
@@ -47,7 +56,7 @@ sized_all x ns id = sized x packed_bytes && (sized ns 7 && sized id 25)
 
 -- closing: 0 and 6 leave a closed session, 5 and 99 the bytes that came
 pub record ClosedAs (x ns id : List ℕ) (r : ℕ) (x' ns' id' : List ℕ) : Type 0 where
-  pub answer : r ≡ cond (sized_all x ns id) (outcome_number (closed_of (unpacked x)).outcome) wrong_size
+  pub answer : r ≡ cond (sized_all x ns id) (outcome_number (closed_of (unpacked x)).closing) wrong_size
   pub session : x' ≡ cond (sized_all x ns id) (cond (eqb r 5) x (bytes_of (closed_of (unpacked x)).next)) x
-  pub numbers : ns' ≡ if_done r (closing_numbers (closed_of (unpacked x)).closing) ns
-  pub identifier : id' ≡ if_done r (closed_of (unpacked x)).closing.id id
+  pub numbers : ns' ≡ cond (sized_all x ns id) (told (closed_of (unpacked x)).closing closing_numbers ns) ns
+  pub identifier : id' ≡ cond (sized_all x ns id) (told (closed_of (unpacked x)).closing closing_id id) id

@@ -10,41 +10,42 @@ ghost use Rattle.nshanvekh.specs.Covers.{FedjelTold, FedjelAs, FedstaAs};
 ghost use Rattle.nshanvekh.specs.Message.{JudgedNumbers, particulars_of, RepliedAs, StatusAs, StatusTold, ReplyTold};
 ghost use Rattle.single.specs.Numbers.{single_number};
 
+use cover::Judged;
 use frame::{Closing, Status};
 use judge::Session;
-use lent::Outcome;
-use status::reply::{Answer, Particulars};
+use lent::{Lists, Refusal};
+use status::reply::Particulars;
 
-// The number of an outcome: 0, or the refusal's.
-fn number_of(o: Outcome) -> u32
-    ensures { result ≡ outcome_number o }
+// Kept: numbers for refusals, here and in each call below: the C interface.
+// The number of what a call gives: 0, or the refusal's.
+fn number_of<T: Copy>(given: Result<T, Refusal>) -> u32
+    ensures { result ≡ outcome_number given }
 {
-    match o {
-        Outcome::Done => 0,
-        Outcome::Refused(r) => lent::number(r) as u32,
+    match given {
+        Ok(_) => 0,
+        Err(r) => u8::from(r) as u32,
     }
 }
 
-// What closing gives is written where the call's number is 0.
-fn tell(n: u32, k: Closing, numbers: &mut [u64], id: &mut [u8]) -> u32
+// What closing gives is written; a refusal writes nothing.
+#[tactic(auto, unfolding(crate::specs::Session::closing_numbers))]
+fn tell(closing: Result<Closing, Refusal>, numbers: &mut [u64], id: &mut [u8]) -> u32
     requires { (length numbers.old ≡ 7) × (length id.old ≡ 25) }
-    ensures { ClosingTold n k numbers.old id.old result numbers.new id.new }
+    ensures { ClosingTold closing numbers.old id.old result numbers.new id.new }
 {
-    if n != 0 {
-        return n;
+    if let Ok(k) = closing {
+        numbers.copy_from_slice(&[
+            k.code as u64,
+            k.accepted.count,
+            k.accepted.sum,
+            k.refused.count,
+            k.refused.sum,
+            k.zeros,
+            k.kind as u64,
+        ]);
+        id.copy_from_slice(&k.id);
     }
-    let a = k.accepted;
-    let r = k.refused;
-    let own = k.id;
-    numbers[0] = k.code as u64;
-    numbers[1] = a.count;
-    numbers[2] = a.sum;
-    numbers[3] = r.count;
-    numbers[4] = r.sum;
-    numbers[5] = k.zeros;
-    numbers[6] = k.kind as u64;
-    text::put(id, &own);
-    n
+    number_of(closing)
 }
 
 // A session is opened for a clearing day and a code table: refusals 99, 1, 4. After 1 and 4 the buffer holds a closed session.
@@ -55,10 +56,8 @@ pub fn nsh_open(day: u32, table: &[u8], session: &mut [u8]) -> u32
         return 99;
     }
     let t = Session::open(day, table);
-    let o = t.outcome;
-    let s = t.next;
-    packed::pack(s, session);
-    number_of(o)
+    packed::pack(t.next, session);
+    number_of(t.outcome)
 }
 
 // A piece is taken: refusals 99, 5, 2, 3, 15, 4. A refusal leaves session and table as they were.
@@ -76,7 +75,12 @@ pub fn nsh_piece(
     if session.len() != packed::BYTES {
         return 99;
     }
-    number_of(packed::take(session, bytes, banks, known, barred, table))
+    let lists = Lists {
+        banks,
+        known,
+        barred,
+    };
+    number_of(packed::take(session, bytes, &lists, table))
 }
 
 // The message is over: refusals 99, 5, 6. 5 leaves all that is lent as it was, 6 closes the session and writes nothing else.
@@ -89,15 +93,12 @@ pub fn nsh_close(session: &mut [u8], numbers: &mut [u64], id: &mut [u8]) -> u32
     }
     let s = packed::unpack(session);
     let c = s.close();
-    let o = c.outcome;
-    let k = c.closing;
-    let next = c.next;
-    let n = number_of(o);
+    let n = number_of(c.closing);
     if n == 5 {
         return n;
     }
-    packed::pack(next, session);
-    tell(n, k, numbers, id)
+    packed::pack(c.next, session);
+    tell(c.closing, numbers, id)
 }
 
 // A whole message is judged: refusals 99, 1, 4, 2, 3, 15, 6. Where it is refused, numbers and identifier stay as they were.
@@ -117,10 +118,12 @@ pub fn nsh_judge(
     if !((numbers.len() == 7) & (id.len() == 25)) {
         return 99;
     }
-    let j = message::judge(day, banks, known, barred, table, message);
-    let o = j.outcome;
-    let k = j.closing;
-    tell(number_of(o), k, numbers, id)
+    let lists = Lists {
+        banks,
+        known,
+        barred,
+    };
+    tell(message::judge(day, &lists, table, message), numbers, id)
 }
 
 // A single head or item, without its ending, at place k of a message of a kind, 1 for BESZED and any other number for ATUTAL; a head tells its
@@ -136,24 +139,21 @@ fn particulars(duplicate: u8, number: u32, time: u32) -> Particulars
     ensures { result ≡ particulars_of duplicate number time }
 {
     Particulars {
-        duplicate: duplicate,
-        number: number,
-        time: time,
+        duplicate,
+        number,
+        time,
     }
 }
 
-// The reply's length is written, or the refusal told.
-fn tell_reply(a: Answer, numbers: &mut [u64]) -> u32
+// The reply's length is written; a refusal writes nothing.
+fn tell_reply(written: Result<usize, Refusal>, numbers: &mut [u64]) -> u32
     requires { length numbers.old ≡ 1 }
-    ensures { ReplyTold a numbers.old result numbers.new }
+    ensures { ReplyTold written numbers.old result numbers.new }
 {
-    match a {
-        Answer::Refused(r) => lent::number(r) as u32,
-        Answer::Written(n) => {
-            numbers[0] = n as u64;
-            0
-        }
+    if let Ok(n) = written {
+        numbers[0] = n as u64;
     }
+    number_of(written)
 }
 
 // The reply to a whole message goes to the front of the output: refusals 99, 1, 2, 3, 15, 6, 7, 8, 9.
@@ -176,35 +176,36 @@ pub fn nsh_reply(
         return 99;
     }
     let p = particulars(duplicate, number, time);
-    tell_reply(
-        status::reply::write(day, banks, known, barred, message, p, out),
-        numbers,
-    )
+    let lists = Lists {
+        banks,
+        known,
+        barred,
+    };
+    tell_reply(status::reply::write(day, &lists, message, p, out), numbers)
 }
 
-// What a STATUS says is written where the call's number is 0.
-fn tell_status(n: u32, s: Status, numbers: &mut [u64], id: &mut [u8]) -> u32
+// What a STATUS says is written; a refusal writes nothing.
+#[tactic(auto, unfolding(crate::specs::Message::status_numbers))]
+fn tell_status(read: Result<Status, Refusal>, numbers: &mut [u64], id: &mut [u8]) -> u32
     requires { (length numbers.old ≡ 10) × (length id.old ≡ 25) }
-    ensures { StatusTold n s numbers.old id.old result numbers.new id.new }
+    ensures { StatusTold read numbers.old id.old result numbers.new id.new }
 {
-    if n != 0 {
-        return n;
+    if let Ok(s) = read {
+        numbers.copy_from_slice(&[
+            s.duplicate as u64,
+            s.date as u64,
+            s.number as u64,
+            s.time as u64,
+            s.code as u64,
+            s.accepted.count,
+            s.accepted.sum,
+            s.refused.count,
+            s.refused.sum,
+            s.references as u64,
+        ]);
+        id.copy_from_slice(&s.id);
     }
-    let a = s.accepted;
-    let r = s.refused;
-    let own = s.id;
-    numbers[0] = s.duplicate as u64;
-    numbers[1] = s.date as u64;
-    numbers[2] = s.number as u64;
-    numbers[3] = s.time as u64;
-    numbers[4] = s.code as u64;
-    numbers[5] = a.count;
-    numbers[6] = a.sum;
-    numbers[7] = r.count;
-    numbers[8] = r.sum;
-    numbers[9] = s.references as u64;
-    text::put(id, &own);
-    n
+    number_of(read)
 }
 
 // A STATUS is read: refusals 99, 10, 9. The k-th reference's code goes to byte k of the table; a refusal alters nothing.
@@ -215,25 +216,18 @@ pub fn nsh_read_status(bytes: &[u8], table: &mut [u8], numbers: &mut [u64], id: 
     if !((numbers.len() == 10) & (id.len() == 25)) {
         return 99;
     }
-    let x = reading::read_status(bytes, table);
-    let o = x.outcome;
-    let s = x.status;
-    tell_status(number_of(o), s, numbers, id)
+    tell_status(reading::read_status(bytes, table), numbers, id)
 }
 
-// What judging a FEDJEL gives is written, or the refusal told.
-fn tell_fedjel(a: cover::Answer, numbers: &mut [u64]) -> u32
+// What judging a FEDJEL gives is written; a refusal writes nothing.
+fn tell_fedjel(judged: Result<Judged, Refusal>, numbers: &mut [u64]) -> u32
     requires { length numbers.old ≡ 2 }
-    ensures { FedjelTold a numbers.old result numbers.new }
+    ensures { FedjelTold judged numbers.old result numbers.new }
 {
-    match a {
-        cover::Answer::Refused(r) => lent::number(r) as u32,
-        cover::Answer::Judged { code, items } => {
-            numbers[0] = code as u64;
-            numbers[1] = items as u64;
-            0
-        }
+    if let Ok(j) = judged {
+        numbers.copy_from_slice(&[j.code as u64, j.items as u64]);
     }
+    number_of(judged)
 }
 
 // A FEDJEL is judged, whole: refusals 99, 1, 11, 12, 9. The k-th item's code goes to byte k of the table; a refusal alters nothing (02 #103).
@@ -275,6 +269,6 @@ pub fn nsh_fedsta(
     }
     let p = particulars(duplicate, number, time);
     let mut own = [0u8; 25];
-    text::put(&mut own, id);
+    own.copy_from_slice(id);
     number_of(status::fedsta::write(day, requests, message, own, cover == 1, p, count, out))
 }

@@ -1,5 +1,4 @@
 pub mod Little
-pub mod Copy
 pub mod Parts
 pub mod Fields
 pub mod RoundTrip

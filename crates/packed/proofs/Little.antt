@@ -2,14 +2,17 @@
 -- Assumes nothing.
 use mathlib.Core.Path.{◌≡◌, refl, sym, ap, ◌∙◌}
 use mathlib.Core.List.{List, [], ◌∷◌, ◌++◌}
-use Prim.Native.Nat.{ℕ, zero, suc, ◌+◌, ◌-◌, ◌*◌, ◌/◌, ◌%◌, ◌^◌, ◌≤◌, ◌<◌}
-use native.Mathlib.Nat.{add-zero, pow-suc, pow-le-pow_right, div-lt_iff_lt-mul, div-add-mod'}
+use Prim.Native.Nat.{ℕ, zero, suc, ◌+◌, ◌*◌, ◌/◌, ◌%◌, ◌^◌, ◌≤◌, ◌<◌}
+use native.Mathlib.Nat.{zero-add, add-zero, pow-suc, div-lt_iff_lt-mul, div-add-mod'}
 use native.Mathlib.Omega.{arith}
+use Rattle.std.proofs.Math.Nat.{div-div-eq-div-mul}
 use lib.Dec.{lit<}
-use lib.ListN.{length, get_or, set, take, drop, length-append, length-set, length-drop}
-use lib.Seq.{drop-cons, length-take-le, get_or-take, get_or-drop}
+use lib.ListN.{length, get_or, take, drop, length-append, length-drop}
+use lib.Seq.{length-take-le, get_or-take, get_or-drop}
+use Rattle.std.specs.Int.{w32, w64, to_le_bytes, from_le_bytes, bytes_low_first, byte_at, byte_worth, sum_through}
 use Rattle.base.specs.Bytes.{over}
-use Rattle.base.proofs.Over.{length_over, over_none, over_over, over_set}
+use Rattle.text.proofs.At.{PutAt, puts}
+use Rattle.base.proofs.Over.{length_over, over_none, over_over}
 use Rattle.base.proofs.Walk.{step, done}
 use Rattle.packed.specs.Packed.{little, value, eights, value_at}
 
@@ -76,51 +79,29 @@ eights_length (n ∷ ns) =
     let l = little_length 8 n in
     simp (length-append, e, l) (omega arith)
 
--- one byte before the others
-pub over_cons : (xs : List ℕ) (a b : ℕ) (d : List ℕ) → a + 1 + length d ≤ length xs → over (set xs a b) (a + 1) d ≡ over xs a (b ∷ d)
-over_cons xs a b d h =
-    let s : set xs a b ≡ over xs a (b ∷ []) = simp (over_none, add-zero) at (over_set xs a [] b (omega arith)) in
-    ap (λ (y : List ℕ). over y (a + 1) d) s ∙ over_over xs a (b ∷ []) d (omega arith)
+-- the library's bytes of a number, the least first
+byte_is : (i n : ℕ) → byte_at i n ≡ n / 256 ^ i % 256
+byte_is zero n = omega arith
+byte_is (suc i) n = refl
 
--- what is left to write of a number stands over what is written, as all of it over what stood
-pub record Put (out₀ : List ℕ) (at w n : ℕ) (out : List ℕ) (left i : ℕ) : Type 0 where
-  pub long : length out ≡ length out₀
-  pub room : at + w ≤ length out₀
-  pub low : i ≤ w
-  pub stands : over out (at + i) (little (w - i) left) ≡ over out₀ at (little w n)
+low_first : (k i n : ℕ) → bytes_low_first i k n ≡ little k (n / 256 ^ i)
+unfolding little
+low_first zero i n = refl
+low_first (suc k) i n =
+    let d : n / 256 ^ suc i ≡ n / 256 ^ i / 256 = ap (λ (m : ℕ). n / m) (pow-suc 256 i) ∙ sym (div-div-eq-div-mul n (256 ^ i) 256) in
+    rw (byte_is i n, ← d) (ap (λ (bs : List ℕ). n / 256 ^ i % 256 ∷ bs) (low_first k (suc i) n))
 
-pub put_start : (out : List ℕ) (at w n : ℕ) → at + w ≤ length out → Put out at w n out n 0
-put_start out at w n h =
-    let z : w - 0 ≡ w = omega arith in
-    record { long = refl; room = h; low = omega arith; stands = rw (add-zero, z) }
+pub four : (n : ℕ) → to_le_bytes w32 n ≡ little 4 n
+four n = low_first 4 0 n ∙ ap (little 4) (omega arith)
 
-module _ {out₀ : List ℕ} {at w n : ℕ} {out : List ℕ} {left i : ℕ} (p : Put out₀ at w n out left i) where
-  pub put_on : i < w → Put out₀ at w n (set out (at + i) (left % 256)) (left / 256) (i + 1)
-  unfolding little
-  put_on h =
-      let k = w - (i + 1) in
-      let e : w - i ≡ suc k = omega arith in
-      let s : over out (at + i) (left % 256 ∷ little k (left / 256)) ≡ over out₀ at (little w n) = rw e at p.stands in
-      let l = little_length k (left / 256) in
-      let a : at + (i + 1) ≡ at + i + 1 = omega arith in
-      let y = set out (at + i) (left % 256) in
-      let o : over y (at + i + 1) (little k (left / 256)) ≡ over out (at + i) (left % 256 ∷ little k (left / 256)) =
-      over_cons out (at + i) (left % 256) (little k (left / 256)) (omega (arith, l, p.long, p.room)) in
-      record {
-        long = length-set out (at + i) (left % 256) ∙ p.long;
-        room = p.room;
-        low = omega arith;
-        stands = ap (λ (j : ℕ). over y j (little k (left / 256))) a ∙ o ∙ s;
-      }
+pub eight : (n : ℕ) → to_le_bytes w64 n ≡ little 8 n
+eight n = low_first 8 0 n ∙ ap (little 8) (omega arith)
 
-  pub put_ends : w ≤ i → out ≡ over out₀ at (little w n)
-  unfolding little
-  put_ends h =
-      let e : w - i ≡ 0 = omega arith in
-      let s : over out (at + i) [] ≡ over out₀ at (little w n) = rw e at p.stands in
-      sym (over_none out (at + i)) ∙ s
+-- they are put over what stands
+pub put_little : (x : List ℕ) (a w n : ℕ) {bs y : List ℕ} {j : ℕ} → bs ≡ little w n → PutAt x a bs j y → a + w ≤ length x → y ≡ over x a (little w n)
+put_little x a w n {bs} e p h = (puts x a bs (omega (arith, ap length e, little_length w n)) p).bytes ∙ ap (over x a) e
 
--- so with numbers
+-- what is left to write of numbers stands over what is written, as all of them over what stood
 pub record Puts (out₀ : List ℕ) (at : ℕ) (ns out : List ℕ) (i : ℕ) : Type 0 where
   pub long : length out ≡ length out₀
   pub room : at + length ns * 8 ≤ length out₀
@@ -131,9 +112,12 @@ pub puts_start : (out : List ℕ) (at : ℕ) (ns : List ℕ) → at + length ns 
 puts_start out at ns h = record { long = refl; room = h; low = omega arith; stands = rw add-zero }
 
 module _ {out₀ : List ℕ} {at : ℕ} {ns out : List ℕ} {i : ℕ} (p : Puts out₀ at ns out i) where
-  pub puts_on : i < length ns → (y : List ℕ) → y ≡ over out (at + i * 8) (little 8 (get_or ns i 0)) → Puts out₀ at ns y (i + 1)
+  pub puts_on : i < length ns → (y : List ℕ) {bs : List ℕ} {j : ℕ} → bs ≡ to_le_bytes w64 (get_or ns i 0) → PutAt out (at + i * 8) bs j y
+      → Puts out₀ at ns y (i + 1)
   unfolding eights
-  puts_on h y q =
+  puts_on h y b o =
+      let q : y ≡ over out (at + i * 8) (little 8 (get_or ns i 0)) =
+      put_little out (at + i * 8) 8 (get_or ns i 0) (b ∙ eight (get_or ns i 0)) o (omega (arith, p.room, p.long)) in
       let n = get_or ns i 0 in
       let t = drop (i + 1) ns in
       let f = step ns i h in
@@ -158,51 +142,31 @@ module _ {out₀ : List ℕ} {at : ℕ} {ns out : List ℕ} {i : ℕ} (p : Puts 
       let s : over out (at + i * 8) [] ≡ over out₀ at (eights ns) = rw (done ns i h) at p.stands in
       sym (over_none out (at + i * 8)) ∙ s
 
--- the bytes from i on are read
-pub record Read (x : List ℕ) (at w n i : ℕ) : Type 0 where
-  pub room : at + w ≤ length x
-  pub wide : w ≤ 8
-  pub low : at ≤ i
-  pub high : i ≤ at + w
-  pub is : n ≡ value (take (at + w - i) (drop i x))
-  pub small : n < 256 ^ (at + w - i)
+-- the number that the library reads of bytes
+shift : (f : ℕ → ℕ) (k : ℕ) → sum_through f (suc k) ≡ f 0 + sum_through (λ i. f (suc i)) k
+shift f zero = refl
+shift f (suc k) = omega (arith, shift f k)
 
-pub read_start : (x : List ℕ) (at w : ℕ) → at + w ≤ length x → w ≤ 8 → Read x at w 0 (at + w)
+scale : (g : ℕ → ℕ) (k : ℕ) → sum_through (λ i. byte_worth (suc i) (g i)) k ≡ sum_through (λ i. byte_worth i (g i)) k * 256
+scale g zero = refl
+scale g (suc k) =
+    let e : 256 ^ suc (suc k) ≡ 256 ^ suc k * 256 = pow-suc 256 (suc k) in
+    rw (scale g k, e) (omega arith)
+
+worth : (bs : List ℕ) (k : ℕ) → length bs ≡ suc k → sum_through (λ i. byte_worth i (get_or bs i 0)) k ≡ value bs
 unfolding value
-read_start x at w h k =
-    let z : at + w - (at + w) ≡ 0 = omega arith in
-    record { room = h; wide = k; low = omega arith; high = omega arith; is = rw z; small = rw z (lit< tt) }
+worth [] k h = absurd (omega arith)
+worth (b ∷ []) zero h = sym (zero-add b)
+worth (b ∷ []) (suc k) h = absurd (omega arith)
+worth (b ∷ c ∷ bs) zero h = absurd (omega arith)
+worth (b ∷ c ∷ bs) (suc k) h =
+    let f : ℕ → ℕ = λ i. byte_worth i (get_or (b ∷ c ∷ bs) i 0) in
+    shift f k ∙ ap (λ (n : ℕ). b + n) (scale (λ i. get_or (c ∷ bs) i 0) k ∙ ap (λ (n : ℕ). n * 256) (worth (c ∷ bs) k (omega arith))) ∙ omega arith
 
-read_suc : (x : List ℕ) (at w n j : ℕ) → Read x at w n (suc j) → at ≤ j → get_or x j 0 < 256 → Read x at w (n * 256 + get_or x j 0) j
-unfolding value
-read_suc x at w n j r l b =
-    let k = at + w - suc j in
-    let e : at + w - j ≡ suc k = omega (arith, r.high) in
-    let c = drop-cons x j 0 (omega (arith, r.room, r.high)) in
-    let p : 256 ^ (at + w - j) ≡ 256 ^ k * 256 = rw (e, pow-suc) in
-    record {
-      room = r.room;
-      wide = r.wide;
-      low = l;
-      high = omega (arith, r.high);
-      is = rw (e, c) (ap (λ (m : ℕ). m * 256 + get_or x j 0) r.is);
-      small = omega (arith, r.small);
-    }
+-- the bytes from a place on
+module _ (x : List ℕ) (a : ℕ) {bs : List ℕ} {n : ℕ} where
+  pub four_read : bs ≡ take 4 (drop a x) → n ≡ from_le_bytes w32 bs → a + 4 ≤ length x → n ≡ value_at 4 a x
+  four_read e q h = q ∙ worth bs 3 (ap length e ∙ length-take-le 4 (drop a x) (omega (arith, length-drop a x))) ∙ ap value e
 
-module _ {x : List ℕ} {at w n i : ℕ} (r : Read x at w n i) where
-  pub read_room : at < i → n < 256 ^ 7
-  read_room h =
-      let j : at + w - i ≤ 7 = omega (arith, r.wide) in
-      let p : 256 ^ (at + w - i) ≤ 256 ^ 7 = pow-le-pow_right (lit< tt) j in
-      omega (arith, r.small)
-
-  pub read_on : at < i → get_or x (i - 1) 0 < 256 → Read x at w (n * 256 + get_or x (i - 1) 0) (i - 1)
-  read_on h b =
-      let e : i ≡ suc (i - 1) = omega arith in
-      read_suc x at w n (i - 1) (rw e at r) (omega arith) b
-
-  pub read_ends : i ≤ at → n ≡ value_at w at x
-  read_ends h =
-      let e : i ≡ at = omega (arith, r.low) in
-      let z : at + w - at ≡ w = omega arith in
-      rw (e, z) at r.is
+  pub eight_read : bs ≡ take 8 (drop a x) → n ≡ from_le_bytes w64 bs → a + 8 ≤ length x → n ≡ value_at 8 a x
+  eight_read e q h = q ∙ worth bs 7 (ap length e ∙ length-take-le 8 (drop a x) (omega (arith, length-drop a x))) ∙ ap value e

@@ -1,23 +1,22 @@
 -- A piece taken where the session stands as bytes: bytes of none, a refusal, and the session to use next.
 -- Assumes nothing.
 use mathlib.Core.Path.{◌≡◌, refl, sym, ap, ◌∙◌}
-use mathlib.Core.Bool.{Bool, true, false, not}
+use mathlib.Core.Bool.{Bool, true, false}
 use mathlib.Core.List.{List, [], ◌++◌, append-nil, append_assoc}
 use Prim.Native.Nat.{ℕ, zero, suc, ◌+◌, ◌-◌, ◌≤◌, ◌<◌}
 use native.Mathlib.Omega.{arith}
-use lib.ListN.{length, get_or, take, drop, length-append, length-drop, take-append-drop, drop_of_length-le}
+use lib.ListN.{length, get_or, take, drop, length-drop, take-append-drop, drop_of_length-le}
 use lib.Seq.{take_all, take_at, drop_at, length-take-le, get_or-take}
-use borrow.Author.Tests.{not-true, eq-eqb}
+use borrow.Author.Tests.{eq-eqb}
 use borrow.Rule.Slice.PartMut.{put_mid}
 use Rattle.base.specs.Bytes.{over}
 use Rattle.base.proofs.Over.{part}
 use Rattle.base.proofs.Parts.{drop_take}
 use Rattle.calendar.specs.Calendar.{is_date}
-use Rattle.lent.specs.Lent.{Lists, by}
+use Rattle.lent.specs.Lent.{Outcome, Lists, by}
 use Rattle.lent.specs.declared.Refusal.{Refusal}
 use Rattle.lent.specs.declared.Refusal.TheVariants as refusal
-use Rattle.lent.specs.declared.Outcome.{Outcome}
-use Rattle.lent.specs.declared.Outcome.TheVariants.{Done, Refused}
+use Rattle.std.proofs.Common.{Ok, Err}
 use Rattle.frame.specs.declared.Tally.{Tally}
 use Rattle.judge.specs.declared.Session.{Session}
 use Rattle.judge.specs.declared.Taken.{Taken}
@@ -51,11 +50,11 @@ closed_out = refl
 
 -- a refusal gives the session as it came
 record Stays (s : Session) (w : Taken) : Type 0 where
-  stays : (f : Refusal) → w.outcome ≡ Refused f → w.next ≡ s
+  stays : (f : Refusal) → w.outcome ≡ Err f → w.next ≡ s
 
-stays_by : (s n : Session) (o : Outcome) → Stays s (by o (give Done n) (λ r. give (Refused r) s))
-stays_by s n Done = record { stays = λ f e. let z : ◌≡◌ {A = ℕ} 0 1 = cc in absurd (omega arith) }
-stays_by s n (Refused r) = record { stays = λ f e. refl }
+stays_by : (s n : Session) (o : Outcome) → Stays s (by o (give (Ok tt) n) (λ r. give (Err r) s))
+stays_by s n (Ok tt) = record { stays = λ f e. let z : ◌≡◌ {A = ℕ} 0 1 = cc in absurd (omega arith) }
+stays_by s n (Err r) = record { stays = λ f e. refl }
 
 above : (n : ℕ) → (n ≡ 0 → ⊥) → 1 ≤ n
 above zero f = absurd (f refl)
@@ -75,29 +74,27 @@ over_same x a =
 
 -- the part from 93 on that was lent and came back
 pub back : {x y : List ℕ} {e room : ℕ} {c : Tally} {fill : ℕ} {p : List ℕ} {l : Lists} {t t' : List ℕ} {r : Step}
-    → length x ≡ packed_bytes → length (put_mid 93 (length x - 93) x y) ≡ length x
+    → length x ≡ packed_bytes → length y ≡ length (take longest (drop 93 x))
     → e ≡ value_at 4 4 x → room ≡ value_at 8 12 x → c ≡ tally_in x → fill ≡ value_at 8 60 x
-    → Stepped e room c fill (take (length x - 93) (drop 93 x)) p l t r y t' → SteppedIn x p l t r (put_mid 93 (length x - 93) x y) t'
+    → Stepped e room c fill (take longest (drop 93 x)) p l t r y t' → SteppedIn x p l t r (put_mid 93 longest x y) t'
 back {x} {y} h k e o c f s =
     let a : length (take 93 x) ≡ 93 = length-take-le 93 x (omega arith) in
     let m : length x - 93 ≡ longest = omega arith in
-    let g : length (drop 93 x) ≤ length x - 93 = omega (arith, length-drop 93 x) in
-    let z : drop (length x - 93) (drop 93 x) ≡ [] = drop_of_length-le (drop 93 x) g in
-    let w : put_mid 93 (length x - 93) x y ≡ take 93 x ++ y = rw z (ap (λ (u : List ℕ). take 93 x ++ u) (append-nil y)) in
-    let j : length y ≡ longest = omega (arith, length-append (take 93 x) y, ap length w) in
-    let d : drop 93 (put_mid 93 (length x - 93) x y) ≡ y = ap (drop 93) w ∙ drop_at (take 93 x) y 93 a in
-    let v : length (take (length x - 93) (drop 93 x)) ≡ longest = length-take-le (length x - 93) (drop 93 x) (omega (arith, length-drop 93 x)) ∙ m in
+    let v : length (take longest (drop 93 x)) ≡ longest = length-take-le longest (drop 93 x) (omega (arith, length-drop 93 x)) in
+    let g : length (drop 93 x) ≤ longest = omega (arith, length-drop 93 x) in
+    let z : drop longest (drop 93 x) ≡ [] = drop_of_length-le (drop 93 x) g in
+    let w : put_mid 93 longest x y ≡ take 93 x ++ y = rw z (ap (λ (u : List ℕ). take 93 x ++ u) (append-nil y)) in
+    let d : drop 93 (put_mid 93 longest x y) ≡ y = ap (drop 93) w ∙ drop_at (take 93 x) y 93 a in
     record {
-      stays = part x 93 y y (omega arith) (sym (over_all (take (length x - 93) (drop 93 x)) y (j ∙ sym v))) ∙ ap (over x 93) (sym d);
-      long = k ∙ h;
-      held = rw (d, ← e, ← o, ← c, ← f, ← m) s;
+      stays = rw m at (part x 93 y y (omega arith) (rw m (sym (over_all (take longest (drop 93 x)) y k)))) ∙ ap (over x 93) (sym d);
+      held = rw (d, ← e, ← o, ← c, ← f) s;
     }
 
 -- the bytes are those of no session
-pub no_session : {x p : List ℕ} {l : Lists} {t : List ℕ} {b : Bool} → b ≡ is_packed x → not b ≡ true → TakenIn x p l t (Refused refusal.Session) x t
+pub no_session : {x p : List ℕ} {l : Lists} {t : List ℕ} {b : Bool} → b ≡ is_packed x → b ≡ false → TakenIn x p l t (Err refusal.Session) x t
 unfolding taken table_taken piece_refused unpacked
 no_session {x} {b = b} e f =
-    let q : is_packed x ≡ false = sym e ∙ not-true b f in
+    let q : is_packed x ≡ false = sym e ∙ f in
     record { outcome = rw (q, closed_out); session = refl; table = rw (q, closed_out); holds = rw (q, closed_out) }
 
 module _ {x p : List ℕ} {l : Lists} {t : List ℕ} (h : is_packed x ≡ true) {r : Step} {y t' : List ℕ} (k : SteppedIn x p l t r y t') where
@@ -119,7 +116,7 @@ module _ {x p : List ℕ} {l : Lists} {t : List ℕ} (h : is_packed x ≡ true) 
   table_is = rw h (rw (eq-eqb (length (take longest (drop 93 x))) longest held_long) at k.held.bytes)
 
   -- a refusal leaves the bytes as they came
-  pub refused : (f : Refusal) → r.outcome ≡ Refused f → TakenIn x p l t (Refused f) y t'
+  pub refused : (f : Refusal) → r.outcome ≡ Err f → TakenIn x p l t (Err f) y t'
   unfolding unpacked session_in
   refused f e =
       let q : (taken (unpacked x) p l t).next ≡ unpacked x =
@@ -145,22 +142,23 @@ module _ {x p : List ℕ} {l : Lists} {t : List ℕ} (h : is_packed x ≡ true) 
   id_is = sym (drop_take 68 93 y) ∙ ap (drop 68) front ∙ drop_take 68 93 x
 
   -- so the identifier stands there already, once the head was read
-  pub named : r.outcome ≡ Done → Named r.tally y
+  pub named : r.outcome ≡ Ok tt → Named r.tally y
   unfolding unpacked session_in tally_in
   named e =
       record {
         stands = λ f.
-            let o : (taken (unpacked x) p l t).outcome ≡ Done = ap (λ (w : Taken). w.outcome) (sym next_is) ∙ e in
+            let o : (taken (unpacked x) p l t).outcome ≡ Ok tt = ap (λ (w : Taken). w.outcome) (sym next_is) ∙ e in
             let g = id_stays s p l t (rw h at o) (above (get_or x 1 0) (λ z. f (phase_is ∙ z))) in
             id_is ∙ sym (ap (λ (w : Taken). w.next.tally.id) (rw h at next_is) ∙ g);
       }
 
   -- else the tally is written where it stood
-  pub done : ((i : ℕ) → get_or x i 0 < 256) → r.outcome ≡ Done → {z : List ℕ} → TallyPut r.tally r.fill y z → TakenIn x p l t Done z t'
+  pub done : length y ≡ packed_bytes → ((i : ℕ) → get_or x i 0 < 256) → r.outcome ≡ Ok tt → {z : List ℕ}
+      → TallyPut r.tally r.fill y z → TakenIn x p l t (Ok tt) z t'
   unfolding session_in tally_in
-  done b e {z} w =
+  done m b e {z} w =
       let i = length-take-le 25 (drop 68 x) (omega (arith, length-drop 68 x, long x h)) in
-      let j : length (drop 93 y) ≡ longest = omega (arith, length-drop 93 y, k.long) in
+      let j : length (drop 93 y) ≡ longest = omega (arith, length-drop 93 y, m) in
       let f : Fits n =
       record {
         day = value_small 4 x 4 b (omega (arith, long x h));

@@ -6,10 +6,9 @@ use Rattle.frame.specs.declared.Totals.{Totals}
 use Rattle.frame.specs.declared.Told.{Told}
 use Rattle.frame.specs.declared.Tally.{Tally}
 use Rattle.judge.specs.declared.Session.{Session}
-use Rattle.lent.specs.declared.Outcome.{Outcome}
 use Rattle.judge.specs.declared.Step.{Step}
 use Rattle.judge.specs.Session.{longest, closed_session, taken, table_taken, Stepped}
-use Rattle.lent.specs.Lent.{Lists, by}
+use Rattle.lent.specs.Lent.{Outcome, Lists, by}
 
 -- a packed session has so many bytes
 abbrev pub packed_bytes : ℕ
@@ -152,5 +151,4 @@ pub record TallyPut (c : Tally) (fill : ℕ) (x x' : List ℕ) : Type 0 where
 -- a piece is taken with the bytes held where they stand; the bytes before them stay
 pub record SteppedIn (x p : List ℕ) (l : Lists) (t : List ℕ) (r : Step) (x' t' : List ℕ) : Type 0 where
   pub stays : x' ≡ over x 93 (drop 93 x')
-  pub long : length x' ≡ packed_bytes
   pub held : Stepped (value_at 4 4 x) (value_at 8 12 x) (tally_in x) (value_at 8 60 x) (take longest (drop 93 x)) p l t r (drop 93 x') t'

@@ -1,7 +1,8 @@
 -- The purposes: the 46 codes of annex 2 of the standard, in its order.
 -- Assumes nothing.
-use Rattle.std.specs.Prelude.{ℕ, Bool, false, ◌||◌, List, [], ◌∷◌}
+use Rattle.std.specs.Prelude.{ℕ, Bool, List, [], ◌∷◌}
 use Rattle.base.specs.Bytes.{ascii, same}
+use Rattle.base.specs.Groups.{some}
 
 unfoldable pub purposes : List (List ℕ)
 purposes =
@@ -16,8 +17,7 @@ purposes =
 
 -- s is one of the codes
 abbrev pub one_of : List (List ℕ) → List ℕ → Bool
-one_of [] s = false
-one_of (p ∷ ps) s = same p s || one_of ps s
+one_of ps s = some (λ p. same p s) ps
 
 -- s is a purpose
 abbrev pub is_purpose : List ℕ → Bool

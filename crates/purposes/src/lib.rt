@@ -2,7 +2,6 @@
 #![tactic(auto)]
 
 ghost use Rattle.std.specs.Prelude.{◌≡◌};
-ghost use Rattle.base.specs.Bytes.{same};
 ghost use Rattle.purposes.specs.Purposes.{is_purpose};
 
 // The purposes, in the order of annex 2 of 002.
@@ -14,27 +13,10 @@ const PURPOSES: [[u8; 3]; 46] = [
     *b"KTS", *b"LBR", *b"MVZ", *b"SZE", *b"THO", *b"VIL",
 ];
 
-// Whether the bytes are one purpose of the table.
-fn is_code(s: &[u8], code: [u8; 3]) -> bool
-    ensures { result ≡ same code s.now }
-{
-    if s.len() != 3 {
-        return false;
-    }
-    (code[0] == s[0]) & (code[1] == s[1]) & (code[2] == s[2])
-}
-
-// Whether the bytes are a purpose (annex 2 of 002). The table is named once, before the loop: it is stored where it is named.
+// Whether the bytes are a purpose (annex 2 of 002).
+#[tactic(auto, unfolding(crate::specs::Purposes::purposes))]
 pub fn is_purpose(s: &[u8]) -> bool
     ensures { result ≡ is_purpose s.now }
 {
-    let table = PURPOSES;
-    let mut i = 0;
-    while i < 46 {
-        if is_code(s, table[i]) {
-            return true;
-        }
-        i += 1;
-    }
-    false
+    PURPOSES.iter().any(|code| code.as_slice() == s)
 }

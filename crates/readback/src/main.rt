@@ -4,10 +4,9 @@
 ghost use Rattle.std.specs.Prelude.{◌≤◌, length};
 ghost use Rattle.base.specs.Counts.{IsPrefixLen};
 
-use console::{put, put_number, read_full, refuse, say};
+use console::{put, read_full, refuse};
 use frame::Status;
 use judge::Session;
-use lent::Outcome;
 
 // The longest STATUS that is held: 104 bytes of head and foot, and 65 for each of as many references as a table has codes.
 const STATUS: usize = 104 + 65 * Session::MOST;
@@ -24,11 +23,8 @@ fn put_items(out: &mut [u8], from: usize, codes: &[u8]) -> usize
     ensures { IsPrefixLen result out.new }
 {
     let mut at = from;
-    let mut i = 0;
-    while i < codes.len() {
-        let code = codes[i];
-        i += 1;
-        at += lines::facts::put_item(&mut out[at..], i as u64, code);
+    for (i, code) in codes.iter().enumerate() {
+        at += lines::facts::put_item(&mut out[at..], i as u64 + 1, *code);
     }
     at
 }
@@ -44,27 +40,22 @@ fn print(rt: &impl Print, s: Status, codes: &[u8]) {
 // The STATUS is read, and printed or refused.
 fn read(rt: &HostRuntime, bytes: &[u8]) {
     let mut codes = [0u8; Session::MOST];
-    let r = reading::read_status(bytes, &mut codes);
-    let o = r.outcome;
-    let s = r.status;
-    let n = s.references;
-    match o {
-        Outcome::Refused(r) => refuse(&rt.stderr(), r),
-        Outcome::Done => print(rt, s, &codes[..n]),
+    match reading::read_status(bytes, &mut codes) {
+        Ok(s) => print(rt, s, &codes[..s.references]),
+        Err(r) => refuse(&rt.stderr(), r),
     }
 }
 
 // Of a longer one nothing is read.
 fn too_long(rt: &HostRuntime) {
-    say(rt, b"readback: over ");
-    put_number(&rt.stderr(), STATUS as u64);
-    say(rt, b" bytes, a STATUS with more than ");
-    put_number(&rt.stderr(), Session::MOST as u64);
-    say(rt, b" references isn't read\n");
+    let _ = eprintln!(rt;
+        "readback: over {STATUS} bytes, a STATUS with more than {} references isn't read",
+        Session::MOST
+    );
 }
 
 // The STATUS is read into the space.
-fn answer(rt: &HostRuntime, space: &mut [u8]) {
+fn answer(rt: &HostRuntime, space: &mut [u8; SPACE]) {
     let n = read_full(&mut rt.stdin(), space);
     if n > STATUS {
         too_long(rt);
@@ -73,12 +64,7 @@ fn answer(rt: &HostRuntime, space: &mut [u8]) {
     read(rt, &space[..n]);
 }
 
-// In the memory that is lent.
-fn answer_in(rt: &HostRuntime, space: &mut [u8; SPACE]) {
-    answer(rt, space);
-}
-
 fn main(rt: HostRuntime) {
     let mut space = [0u8; SPACE];
-    answer_in(&rt, &mut space);
+    answer(&rt, &mut space);
 }

@@ -9,6 +9,7 @@ use lib.Dec.{leb, ltb, eqb}
 use lib.ListN.{length, take, drop}
 use lib.Seq.{take_at}
 use borrow.Author.Tests.{le-leb, ltb-true, lt-ltb, eqb-true, eq-eqb, not-false}
+use Rattle.std.specs.Prelude.{Ok}
 use Rattle.base.specs.Bytes.{field, over}
 use Rattle.base.proofs.Every.{both}
 use Rattle.calendar.specs.Calendar.{is_date}
@@ -20,10 +21,8 @@ use Rattle.frame.specs.Verdict.{Rules, blank, counted, accepted, refused, found_
 use Rattle.frame.proofs.Faults.{codeless, all_items}
 use Rattle.frame.proofs.Counting.{findings_length}
 use Rattle.kinds.specs.Codes.{rules}
-use Rattle.lent.specs.declared.Outcome.TheVariants as outcome
 use Rattle.frame.specs.declared.Status.{Status}
 use Rattle.status.specs.declared.reply.Particulars.{Particulars}
-use Rattle.status.specs.declared.reply.Answer.TheVariants.{Written}
 use Rattle.status.specs.Records.{is_address}
 use Rattle.fields.specs.Fields.{is_duplicate}
 use Rattle.status.specs.Reply.{has_address, are_particulars, saying, room, referred, said, reply, answer, output}
@@ -146,22 +145,22 @@ module _ (l : Lent) (m : List ℕ) (p : Particulars) where
       room_for : leb (count_of (reply l m p)) (length t) ≡ true
       room_for = le-leb (count_of (reply l m p)) (length t) (omega (arith, reply_count))
 
-      reply_read : read_of (reply l m p) t ≡ record { outcome = outcome.Done; status = said l m p }
+      reply_read : read_of (reply l m p) t ≡ Ok (said l m p)
       unfolding read_of
-      reply_read = rw (reply_right, room_for) (ap (λ (z : Status). record { outcome = outcome.Done; status = z }) reply_says)
+      reply_read = rw (reply_right, room_for) (ap Ok reply_says)
 
       reply_read_table : table_read (reply l m p) t ≡ over t 0 (referred l m)
       unfolding table_read
       reply_read_table = rw (reply_right, room_for) (ap (over t 0) reply_codes)
 
   -- the reply stands at the front of the output
-  front : (out : List ℕ) (n : ℕ) → answer l m p out ≡ Written n → take n (output l m p out) ≡ reply l m p
+  front : (out : List ℕ) (n : ℕ) → answer l m p out ≡ Ok n → take n (output l m p out) ≡ reply l m p
   unfolding output over
   front out n q = rw q (take_at (reply l m p) (drop (0 + length (reply l m p)) out) n (sym (granted l m p out n q).size))
 
   -- reading any reply that was written
-  pub read_back : (out : List ℕ) (n : ℕ) → answer l m p out ≡ Written n → (t : List ℕ) → length (referred l m) ≤ length t
-      → (read_of (take n (output l m p out)) t ≡ record { outcome = outcome.Done; status = said l m p })
+  pub read_back : (out : List ℕ) (n : ℕ) → answer l m p out ≡ Ok n → (t : List ℕ) → length (referred l m) ≤ length t
+      → (read_of (take n (output l m p out)) t ≡ Ok (said l m p))
       × (table_read (take n (output l m p out)) t ≡ over t 0 (referred l m))
   read_back out n q t h =
       let g = granted l m p out n q in

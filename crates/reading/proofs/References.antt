@@ -13,6 +13,7 @@ use lib.Seq.{drop-drop}
 use Rattle.base.specs.Bytes.{field}
 use Rattle.base.proofs.Parts.{tail}
 use Rattle.digits.specs.Digits.{number_of}
+use Rattle.reading.specs.Checking.{reference_at}
 use Rattle.reading.specs.Reading.{count_of, parts_of, foot_in, reference_right, references_right, zeros_in, others_in}
 
 -- n parts are n
@@ -30,26 +31,20 @@ parts_suc (suc n) x =
     let e : drop (65 * n) (drop 65 x) ≡ drop (65 * suc n) x = rw (drop-drop, m) in
     ap (λ (l : List (List ℕ)). take 65 x ∷ l) (rw e at (parts_suc n (drop 65 x)))
 
--- the reference at place i, counted from 0, as code lends it
-pub cut : (x : List ℕ) (i : ℕ) → take (56 + 65 * i + 65 - (56 + 65 * i)) (drop (56 + 65 * i) x) ≡ take 65 (drop (65 * i) (drop 56 x))
-cut x i =
-    let e : 56 + 65 * i + 65 - (56 + 65 * i) ≡ 65 = omega arith in
-    rw (e, drop-drop)
-
 -- the foot as code lends it
 pub foot_lent : (x : List ℕ) {m : ℕ} → m ≡ count_of x → take (length x - (56 + 65 * m)) (drop (56 + 65 * m) x) ≡ foot_in x
 foot_lent x {m} e = rw e (tail x (56 + 65 * count_of x))
 
 module _ (x : List ℕ) (i : ℕ) where
-  -- the first i references, and the next as code lends it
+  -- the first i references, and the next
   abbrev pub first : List (List ℕ)
   first = parts_of i (drop 56 x)
 
   abbrev pub next : List ℕ
-  next = take (56 + 65 * i + 65 - (56 + 65 * i)) (drop (56 + 65 * i) x)
+  next = reference_at i x
 
   pub first_on : parts_of (i + 1) (drop 56 x) ≡ first ++ (next ∷ [])
-  first_on = rw (cut x i, add-one) (parts_suc i (drop 56 x))
+  first_on = rw add-one (parts_suc i (drop 56 x) ∙ ap (λ (y : List ℕ). first ++ (take 65 y ∷ [])) (drop-drop (65 * i) 56 x))
 
 abbrev pub code_of : List ℕ → ℕ
 code_of r = number_of (field 9 10 r)

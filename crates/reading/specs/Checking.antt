@@ -1,10 +1,9 @@
 -- What the checks of a STATUS's parts ask and give.
 -- Assumes nothing.
-use Rattle.std.specs.Prelude.{Bool, cond, ◌&&◌, List, ℕ, ◌+◌, ◌-◌, ◌%◌, length, take, drop, leb, ltb, eqb}
+use Rattle.std.specs.Prelude.{Bool, cond, ◌&&◌, List, ℕ, ◌+◌, ◌-◌, ◌*◌, ◌%◌, Option, Some, None, length, take, drop, leb, ltb, eqb}
 use Rattle.digits.specs.Digits.{number_of}
 use Rattle.frame.specs.declared.Totals.{Totals}
 use Rattle.frame.specs.declared.Status.{Status}
-use Rattle.reading.specs.declared.Referred.{Referred}
 use Rattle.reading.specs.Reading.{head_in, references_in, foot_in, head_right, references_right, foot_right, codes_in, zeros_in, status_in, counts_right}
 
 -- the lengths are those of a head, references and a foot
@@ -17,9 +16,13 @@ parts_right x =
     head_right (head_in x)
     && (references_right 1 (references_in x) && (foot_right (foot_in x) && counts_right (status_in x) (codes_in x)))
 
--- each reference is right, and how many have code 00
-abbrev pub referred_of : List ℕ → Referred
-referred_of x = record { right = references_right 1 (references_in x); zeros = zeros_in (codes_in x) }
+-- the reference with i before it
+abbrev pub reference_at : ℕ → List ℕ → List ℕ
+reference_at i x = take 65 (drop (56 + 65 * i) x)
+
+-- how many have code 00, where each reference is right
+abbrev pub zeros_of : List ℕ → Option ℕ
+zeros_of x = cond (references_right 1 (references_in x)) (Some (zeros_in (codes_in x))) None
 
 -- six digits and sixteen, from a place of the foot on
 abbrev pub totals_at : ℕ → List ℕ → Totals

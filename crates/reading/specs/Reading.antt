@@ -1,15 +1,13 @@
 -- Reading a STATUS message: what it must be, and what it says (01, Calls and their answers, the last paragraph).
 -- Assumes nothing.
-use Rattle.std.specs.Prelude.{ℕ, zero, suc, ◌+◌, ◌-◌, ◌*◌, ◌/◌, ◌%◌, ◌≡◌, Bool, true, cond, ◌&&◌, List, [], ◌∷◌, map, length, get_or, take, drop, leb, ltb, eqb}
+use Rattle.std.specs.Prelude.{ℕ, zero, suc, ◌+◌, ◌-◌, ◌*◌, ◌/◌, ◌%◌, ◌≡◌, Bool, true, cond, ◌&&◌, List, [], ◌∷◌, map, length, get_or, take, drop}
+use Rattle.std.specs.Prelude.{leb, ltb, eqb, Result, Ok, Err}
 use Rattle.base.specs.Bytes.{ascii, field, same, over}
 use Rattle.digits.specs.Digits.{is_digits, number_of}
-use Rattle.frame.specs.Records.{no_id, ended}
-use Rattle.frame.specs.Verdict.{none}
-use Rattle.lent.specs.declared.Outcome.TheVariants.{Done, Refused}
+use Rattle.frame.specs.Records.{ended}
 use Rattle.lent.specs.declared.Refusal.{Refusal}
 use Rattle.lent.specs.declared.Refusal.TheVariants.{Room, Malformed}
 use Rattle.frame.specs.declared.Status.{Status}
-use Rattle.reading.specs.declared.Read.{Read}
 use Rattle.status.specs.Records.{is_address}
 use Rattle.fields.specs.Fields.{is_duplicate}
 
@@ -99,35 +97,14 @@ is_status x =
     && (head_right (head_in x)
     && (references_right 1 (references_in x) && (foot_right (foot_in x) && counts_right (status_in x) (codes_in x)))))
 
--- zeros and spaces
-abbrev pub no_status : Status
-no_status =
-    record {
-      duplicate = 0;
-      id = no_id;
-      date = 0;
-      number = 0;
-      time = 0;
-      code = 0;
-      accepted = none;
-      refused = none;
-      references = 0;
-    }
-
-abbrev pub refused_as : Refusal → Read
-refused_as r = record { outcome = Refused r; status = no_status }
-
 -- refusals 10, 9
-unfoldable pub read_of : List ℕ → List ℕ → Read
-read_of x t =
-    cond (is_status x)
-    (cond (leb (count_of x) (length t)) (record { outcome = Done; status = status_in x }) (refused_as Room))
-    (refused_as Malformed)
+unfoldable pub read_of : List ℕ → List ℕ → Result Status Refusal
+read_of x t = cond (is_status x) (cond (leb (count_of x) (length t)) (Ok (status_in x)) (Err Room)) (Err Malformed)
 
 -- byte k of the table gets the k-th code, other bytes stay
 unfoldable pub table_read : List ℕ → List ℕ → List ℕ
 table_read x t = cond (is_status x && leb (count_of x) (length t)) (over t 0 (codes_in x)) t
 
-pub record ReadAs (x t : List ℕ) (r : Read) (t' : List ℕ) : Type 0 where
+pub record ReadAs (x t : List ℕ) (r : Result Status Refusal) (t' : List ℕ) : Type 0 where
   pub result : r ≡ read_of x t
   pub bytes : t' ≡ table_read x t

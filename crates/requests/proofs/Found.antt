@@ -1,22 +1,43 @@
 -- What a search for an identifier found: whether a request has it, and the request as code lends it.
 -- Assumes nothing.
-use mathlib.Core.Path.{◌≡◌, sym, ap, ◌∙◌}
-use mathlib.Core.List.{List, []}
-use Prim.Native.Nat.{ℕ, ◌+◌, ◌-◌, ◌*◌, ◌/◌, ◌<◌}
-use native.Mathlib.Nat.{add-sub_cancel_left}
-use lib.Dec.{ltb}
+use mathlib.Core.Path.{◌≡◌, refl, ap, sym, ◌∙◌}
+use mathlib.Core.Bool.{true, false}
+use mathlib.Core.List.{List, [], ◌∷◌}
+use Prim.Native.Nat.{ℕ, zero, suc, ◌*◌, ◌/◌, ◌<◌}
+use native.Mathlib.Omega.{arith}
 use lib.ListN.{length, get_or, take, drop}
-use Rattle.base.specs.Groups.{place}
-use Rattle.base.proofs.Groups.{length_groups, group_at, some_found}
+use Rattle.std.specs.Prelude.{Option, Some, None, position}
+use Rattle.std.specs.Simd.{first_chunks}
+use Rattle.base.specs.Groups.{groups}
+use Rattle.base.proofs.Groups.{length_groups, group_at, some_within}
+use Rattle.base.proofs.Chunks.{position_none, position_found}
 use Rattle.requests.specs.Requests.{requests_of, has_id, is_asked, request_of}
 
-module _ (l id : List ℕ) {j : ℕ} (p : j ≡ place (has_id id) (requests_of l)) where
-  pub asked : is_asked id (requests_of l) ≡ ltb j (length l / 65)
-  asked = some_found (has_id id) (requests_of l) (length_groups 65 65 (length l / 65) l) p
+-- the arrays that a slice is cut into are its groups
+pub arrays : (n k : ℕ) (l : List ℕ) → first_chunks n k l ≡ groups n n k l
+arrays n zero l = refl
+arrays n (suc k) l = ap (λ (x : List (List ℕ)). take n l ∷ x) (arrays n k (drop n l))
 
-  pub lent : j < length l / 65 → request_of id (requests_of l) ≡ take (j * 65 + 65 - j * 65) (drop (j * 65) l)
-  unfolding request_of
-  lent h =
-      ap (λ (i : ℕ). get_or (requests_of l) i []) (sym p)
-      ∙ group_at 65 65 (length l / 65) l j h
-      ∙ ap (λ (i : ℕ). take i (drop (j * 65) l)) (sym (add-sub_cancel_left (j * 65) 65))
+module _ (l id : List ℕ) {r : Option ℕ} (p : r ≡ position (has_id id) (requests_of l)) where
+  pub unasked : r ≡ None → is_asked id (requests_of l) ≡ false
+  unasked n = position_none (has_id id) (requests_of l) p n
+
+  module _ {j : ℕ} (s : r ≡ Some j) where
+    pub asked : is_asked id (requests_of l) ≡ true
+    asked = (position_found (has_id id) (requests_of l) p s).0
+
+    pub inside : j < length l / 65
+    inside =
+        let f = position_found (has_id id) (requests_of l) p s in
+        omega (arith, f.1, some_within (has_id id) (requests_of l) f.0, length_groups 65 65 (length l / 65) l)
+
+    own : request_of id (requests_of l) ≡ get_or (requests_of l) j []
+    unfolding request_of
+    own = ap (λ (i : ℕ). get_or (requests_of l) i []) (sym (position_found (has_id id) (requests_of l) p s).1)
+
+    pub lent : request_of id (requests_of l) ≡ take 65 (drop (j * 65) l)
+    lent = own ∙ group_at 65 65 (length l / 65) l j inside
+
+    -- as one of the list's arrays
+    pub lent_whole : request_of id (requests_of l) ≡ get_or (first_chunks 65 (length l / 65) l) j []
+    lent_whole = own ∙ ap (λ (x : List (List ℕ)). get_or x j []) (sym (arrays 65 (length l / 65) l))

@@ -8,6 +8,7 @@ use native.Mathlib.Omega.{arith}
 use lib.ListN.{length}
 use lib.Dec.{eqb}
 use borrow.Author.Tests.{eqb-true}
+use Rattle.std.specs.Prelude.{Ok, Err}
 use Rattle.base.specs.Tables.{first_given}
 use Rattle.base.proofs.Tables.{ByRows, asked}
 use Rattle.calendar.specs.Calendar.{is_date}
@@ -17,9 +18,8 @@ use Rattle.lent.specs.Refusals.{list_refusals}
 use Rattle.lent.specs.declared.Refusal.TheVariants.{NotADay, Malformed}
 use Rattle.lent.proofs.Refusals.{after_lists, lists_pass}
 use Rattle.frame.specs.Records.{lengths}
+use Rattle.findings.specs.Findings.{Finding}
 use Rattle.findings.specs.declared.Kind.{Kind}
-use Rattle.findings.specs.declared.Finding.{Finding}
-use Rattle.findings.specs.declared.Finding.TheVariants.{Right, Fault}
 use Rattle.findings.specs.declared.Answer.{Answer}
 use Rattle.findings.specs.declared.Answer.TheVariants.{Refused}
 use Rattle.findings.specs.Codes.{Rule}
@@ -43,8 +43,8 @@ data Naming : List Rule → Type 0 where
 -- a fault is named by an answer that is no refusal
 else_none : (f : Finding) (n : Kind → Answer) (a : Answer) → ((k : Kind) → refused_number (n k) ≡ 0) → refused_number a ≡ 0
     → refused_number (named_else f n a) ≡ 0
-else_none Right n a h e = e
-else_none (Fault k) n a h e = h k
+else_none (Ok u) n a h e = e
+else_none (Err k) n a h e = h k
 
 -- the answer by such rules is no refusal
 no_refusal : {rs : List Rule} → Naming rs → refused_number (first_named rs) ≡ 0

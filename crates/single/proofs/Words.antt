@@ -1,7 +1,7 @@
 -- The number of an answer gives back the words of the field that it names and of the kind of its fault: its two parts are their places in the
 -- lists of words.
 -- Assumes nothing.
-use mathlib.Core.Path.{◌≡◌, refl, ap, ◌∙◌}
+use mathlib.Core.Path.{◌≡◌, ap, ◌∙◌}
 use mathlib.Core.List.{[]}
 use Prim.Native.Nat.{ℕ, ◌+◌, ◌*◌, ◌/◌, ◌%◌, ◌<◌}
 use native.Mathlib.Omega.{arith}
@@ -16,9 +16,8 @@ use Rattle.findings.specs.declared.Answer.{Answer}
 use Rattle.findings.specs.declared.Answer.TheVariants as answer
 use Rattle.findings.specs.Findings.{kind_number}
 use Rattle.findings.specs.Answers.{answer_number, field_number, field_words, answer_field, kind_words, kind_word}
-use Rattle.single.specs.declared.Field.{Field}
-use Rattle.single.specs.declared.Field.TheVariants as field
-use Rattle.single.specs.Names.{name_of}
+use Rattle.std.specs.Prelude.{Some}
+use Rattle.single.specs.Names.{kind_in}
 use Rattle.single.specs.Numbers.{single_number}
 
 -- the numbers of kinds and refusals are below 100
@@ -88,32 +87,33 @@ field_word a =
     ap (λ (n : ℕ). get_or field_words n []) e
 
 -- an answer that names a field has its kind's number
-names_kind : (f : Field) (k : Kind) → answer_number (name_of f k) ≡ kind_number k
-names_kind field.Type k = refl
-names_kind field.MessageType k = refl
-names_kind field.DuplicateCode k = refl
-names_kind field.Initiator k = refl
-names_kind field.Identifier k = refl
-names_kind field.Date k = refl
-names_kind field.Number k = refl
-names_kind field.Bank k = refl
-names_kind field.Account k = refl
-names_kind field.DebitDate k = refl
-names_kind field.Purpose k = refl
-names_kind field.Name k = refl
-names_kind field.Remark k = refl
-names_kind field.ItemNumber k = refl
-names_kind field.Amount k = refl
-names_kind field.CustomerId k = refl
-names_kind field.Address k = refl
-names_kind field.Owner k = refl
-names_kind field.DueDate k = refl
+names_kind : (a : Answer) (k : Kind) → kind_in a ≡ Some k → answer_number a ≡ kind_number k
+names_kind answer.Accepted k e = absurd (cc)
+names_kind (answer.Refused r) k e = absurd (cc)
+names_kind (answer.Type j) k e = cc
+names_kind (answer.MessageType j) k e = cc
+names_kind (answer.DuplicateCode j) k e = cc
+names_kind (answer.Initiator j) k e = cc
+names_kind (answer.Identifier j) k e = cc
+names_kind (answer.Date j) k e = cc
+names_kind (answer.Number j) k e = cc
+names_kind (answer.Bank j) k e = cc
+names_kind (answer.Account j) k e = cc
+names_kind (answer.DebitDate j) k e = cc
+names_kind (answer.Purpose j) k e = cc
+names_kind (answer.Name j) k e = cc
+names_kind (answer.Remark j) k e = cc
+names_kind (answer.ItemNumber j) k e = cc
+names_kind (answer.Amount j) k e = cc
+names_kind (answer.CustomerId j) k e = cc
+names_kind (answer.Address j) k e = cc
+names_kind (answer.Owner j) k e = cc
+names_kind (answer.DueDate j) k e = cc
 
 -- the kind of an answer that names a field
-pub kind_word_lem : (f : Field) (k : Kind) → get_or kind_words (single_number (name_of f k) % 100) [] ≡ kind_word k
+pub kind_word_lem : (a : Answer) (k : Kind) → kind_in a ≡ Some k → get_or kind_words (single_number a % 100) [] ≡ kind_word k
 unfolding single_number
-kind_word_lem f k =
-    let a = name_of f k in
+kind_word_lem a k f =
     let h = small a in
     let e : (field_number a * 100 + answer_number a) % 100 ≡ answer_number a = omega arith in
-    ap (λ (n : ℕ). get_or kind_words n []) (e ∙ names_kind f k)
+    ap (λ (n : ℕ). get_or kind_words n []) (e ∙ names_kind a k f)

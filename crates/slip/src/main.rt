@@ -4,12 +4,13 @@
 
 ghost use Rattle.std.specs.Prelude.{[], take};
 ghost use Rattle.base.specs.Counts.{IsPrefixLen};
-ghost use Rattle.lent.specs.Lent.{listed};
+ghost use Rattle.lent.specs.Lent.{listed, listed_in};
 ghost use Rattle.slips.specs.Message.{FedAs, FedBy, answer_by, zeros, slip_by, TextFor};
 
-use console::{put, read_file, read_full};
-use files::{Given, SPACE};
+use console::{put, read_files, read_full};
+use files::SPACE;
 use judge::{Session, Taken};
+use lent::Lists;
 use std::io::Read;
 
 // The space for what is printed.
@@ -27,42 +28,36 @@ fn read_piece(
     input: &mut impl Read,
     t: Taken,
     space: &mut [u8],
-    banks: &[u32],
-    known: &[u8],
+    lists: &Lists,
     table: &mut [u8],
 ) -> Fed
-    ensures { FedAs t (take result.length space.new) (listed banks.now known.now [])
+    ensures { FedAs t (take result.length space.new) (listed_in lists.now)
         table.old result.next table.new }
 {
     let n = read_full(input, space);
     Fed {
         length: n,
-        next: slips::feed(t, &space[..n], banks, known, table),
+        next: slips::feed(t, &space[..n], lists, table),
     }
 }
 
-// The message, piece by piece; it is over where the input is, or where a read fails. A proved loop has to end: this one counts its
-// turns down, from a number that no run uses up.
+// The message, piece by piece; it is over where the input is, or where a read fails. A proved loop has to end: this one has more turns
+// than any run uses up.
 fn read_message(
     input: &mut impl Read,
-    start: Taken,
+    mut t: Taken,
     space: &mut [u8],
-    banks: &[u32],
-    known: &[u8],
+    lists: &Lists,
     table: &mut [u8],
 ) -> Taken
-    ensures { FedBy start (listed banks.now known.now []) table.old result table.new }
+    ensures { FedBy t (listed_in lists.now) table.old result table.new }
 {
-    let mut t = start;
-    let mut turns = u64::MAX;
-    while turns > 0 {
-        let f = read_piece(input, t, space, banks, known, table);
-        let next = f.next;
-        t = next;
+    for _ in 0..u64::MAX {
+        let f = read_piece(input, t, space, lists, table);
+        t = f.next;
         if f.length == 0 {
-            return t;
+            break;
         }
-        turns -= 1;
     }
     t
 }
@@ -79,8 +74,13 @@ fn judged(
 {
     let mut table = [0u8; Session::MOST];
     let mut space = [0u8; 65536];
+    let lists = Lists {
+        banks,
+        known,
+        barred: &[],
+    };
     let start = Session::open(day, &table);
-    let t = read_message(input, start, &mut space, banks, known, &mut table);
+    let t = read_message(input, start, &mut space, &lists, &mut table);
     slips::answer(out, t)
 }
 
@@ -97,8 +97,8 @@ fn answered(
 {
     let mut list = [0u32; files::BANKS];
     match files::read(day, banks, known, &mut list) {
-        Given::Refused(r) => lines::slip::put_refusal(out, r),
-        Given::Files { day, banks } => judged(input, out, day, &list[..banks], known),
+        Ok(given) => judged(input, out, given.day, &list[..given.banks], known),
+        Err(r) => lines::slip::put_refusal(out, r),
     }
 }
 
@@ -107,15 +107,13 @@ fn main(rt: HostRuntime) {
     let mut banks = [0u8; SPACE];
     let mut known = [0u8; SPACE];
     let mut out = [0u8; OUTPUT];
-    let d = read_file(&rt, "day", &mut day);
-    let b = read_file(&rt, "banks", &mut banks);
-    let k = read_file(&rt, "known", &mut known);
+    let n = read_files(&rt, &mut day, &mut banks, &mut known);
     let n = answered(
         &mut rt.stdin(),
         &mut out,
-        &day[..d],
-        &banks[..b],
-        &known[..k],
+        &day[..n.day],
+        &banks[..n.banks],
+        &known[..n.known],
     );
     put(&rt, &out[..n]);
 }

@@ -1,23 +1,20 @@
 -- What is printed is short: five lines with numbers of at most twenty digits each, or the line of a refusal.
 -- Assumes nothing.
 use mathlib.Core.Bool.{Bool, true, false, cond}
-use mathlib.Core.List.{List}
 use Prim.Native.Nat.{ℕ, ◌≤◌}
 use native.Mathlib.Omega.{arith}
 use lib.Dec.{ltb}
 use lib.ListN.{length, length-append}
 use Rattle.digits.proofs.Figures.{figures_length}
-use Rattle.lent.specs.Lent.{refusal_number, by}
+use Rattle.lent.specs.Lent.{refusal_number}
 use Rattle.lent.specs.declared.Refusal.{Refusal}
-use Rattle.lent.specs.declared.Outcome.{Outcome}
-use Rattle.lent.specs.declared.Outcome.TheVariants.{Done, Refused}
+use Rattle.std.proofs.Common.{Result, Ok, Err}
 use Rattle.frame.specs.declared.Closing.{Closing}
 use Rattle.judge.specs.declared.Taken.{Taken}
-use Rattle.judge.specs.Session.{closed_of}
 use Rattle.lines.specs.Slip.{code_width, slip_of, refusal_line}
 use Rattle.lines.proofs.Places.{few}
 use Rattle.lines.proofs.Long.{slip_long}
-use Rattle.slips.specs.Message.{closed_text, answer_of}
+use Rattle.slips.specs.Message.{told, closing_by, answer_of}
 
 -- the most bytes that are printed
 abbrev pub most_text : ℕ
@@ -44,13 +41,9 @@ slip_short k =
 pub refusal_short : (r : Refusal) → length (refusal_line r) ≤ most_text
 refusal_short r = let w = few (refusal_number r) in simp (length-append, figures_length) (omega arith)
 
--- one or the other
-either : (o : Outcome) (a : List ℕ) → length a ≤ most_text → length (by o a refusal_line) ≤ most_text
-either Done a h = h
-either (Refused r) a h = refusal_short r
+pub told_short : (c : Result Closing Refusal) → length (told c) ≤ most_text
+told_short (Ok k) = slip_short k
+told_short (Err r) = refusal_short r
 
 pub short : (t : Taken) → length (answer_of t) ≤ most_text
-unfolding answer_of
-short t =
-    let c = closed_of t.next in
-    either t.outcome (closed_text c) (either c.outcome (slip_of c.closing) (slip_short c.closing))
+short t = told_short (closing_by t)

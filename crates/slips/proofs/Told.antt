@@ -1,26 +1,23 @@
 -- What the slip program tells: the text for the pieces that it was given stands at the front of its output.
 -- Assumes nothing.
 use mathlib.Core.Path.{◌≡◌, refl, sym, ap, ◌∙◌}
-use mathlib.Core.Bool.{Bool, true, false, cond}
 use mathlib.Core.List.{List, [], ◌++◌}
 use Prim.Native.Nat.{ℕ, ◌+◌, ◌/◌, ◌≤◌}
 use native.Mathlib.Omega.{arith}
-use lib.Dec.{eqb}
 use lib.ListN.{length, take, drop, length-append}
 use borrow.Author.Tests.{le-leb}
+use Rattle.std.proofs.Common.{Result, Ok, Err}
 use Rattle.base.specs.Bytes.{over}
 use Rattle.base.specs.Put.{Written, Put}
 use Rattle.base.proofs.Written.{Front, front}
 use Rattle.lent.specs.Lent.{Lists, listed}
 use Rattle.lent.specs.declared.Refusal.{Refusal}
-use Rattle.lent.specs.declared.Refusal.TheVariants as refusal
 use Rattle.frame.specs.Machine.{joined}
 use Rattle.judge.specs.declared.Taken.{Taken}
 use Rattle.judge.specs.Session.{opened}
 use Rattle.files.specs.declared.Given.{Given}
-use Rattle.files.specs.declared.Given.TheVariants.{Files, Refused}
 use Rattle.files.specs.Files.{day_of, numbers, is_banks, is_known_file, given_by, ReadAs}
-use Rattle.files.proofs.Says.{banks_front}
+use Rattle.files.proofs.Says.{passed, banks_front}
 use Rattle.lines.specs.Slip.{refusal_line}
 use Rattle.slips.specs.Message.{answer_of, FedBy, answer_by, printed, printed_by, bank_places, zeros, slip_by, TextFor}
 use Rattle.slips.proofs.Short.{most_text, short, refusal_short}
@@ -42,43 +39,29 @@ answers e {l} {table} {start} {t} {table'} {x} o f w h =
       put = rw (f.result, o) at (stands w (omega (arith, short t)));
     }
 
--- how many banks the files hold, where nothing is refused
-abbrev how_many : Given → ℕ → ℕ
-how_many (Files e n) m = n
-how_many (Refused r) m = m
-
-counted : (z v w : Bool) (a m : ℕ)
-    → how_many (cond z (Refused refusal.NotADay) (cond v (cond w (Files a m) (Refused refusal.KnownList)) (Refused refusal.BankList))) m ≡ m
-counted true v w a m = refl
-counted false false w a m = refl
-counted false true false a m = refl
-counted false true true a m = refl
-
-all_counted : (day banks known : List ℕ) (room : ℕ) → how_many (given_by day banks known room) (length banks / 9) ≡ length banks / 9
-unfolding given_by
-all_counted day banks known room = counted (eqb (day_of day) 0) (is_banks banks room) (is_known_file known) (day_of day) (length banks / 9)
-
 -- the files as they were read, into a list that has a place for each bank
-module _ {day banks known list : List ℕ} {g : Given} {list' : List ℕ} (w : ReadAs day banks known list g list') (h : length list ≡ bank_places) where
+module _ {day banks known list : List ℕ} {g : Result Given Refusal} {list' : List ℕ} (w : ReadAs day banks known list g list')
+    (h : length list ≡ bank_places) where
   says : given_by day banks known bank_places ≡ g
   says = sym (rw h at w.result)
 
   -- they are refused
-  pub not_read : (q : Refusal) → g ≡ Refused q → {x : List ℕ} {r : ℕ} {y : List ℕ}
+  pub not_read : (q : Refusal) → g ≡ Err q → {x : List ℕ} {r : ℕ} {y : List ℕ}
       → Written (refusal_line q) x r y → most_text ≤ length x → TextFor (slip_by day banks known) x r y
   unfolding printed joined
   not_read q e p k = record { pieces = []; octets = refl; put = rw (says, e) (stands p (omega (arith, refusal_short q))) }
 
-  module _ (e n : ℕ) (q : g ≡ Files e n) where
-    how_many_lem : n ≡ length banks / 9
-    how_many_lem = ap (λ (x : Given). how_many x (length banks / 9)) (sym (says ∙ q)) ∙ all_counted day banks known bank_places
+  module _ (f : Given) (q : g ≡ Ok f) where
+    how_many : f.banks ≡ length banks / 9
+    unfolding given_by
+    how_many = sym (passed (day_of day) (is_banks banks bank_places) (is_known_file known) (length banks / 9) f (says ∙ q)).3
 
-    the_banks : take n list' ≡ numbers banks
-    the_banks = rw (how_many_lem, w.bytes, q) (banks_front banks list)
+    the_banks : take f.banks list' ≡ numbers banks
+    the_banks = rw (how_many, w.bytes, q) (banks_front banks list)
 
     -- and the message by what they say
     pub by_files : {x : List ℕ} {r : ℕ} {y : List ℕ}
-        → TextFor (answer_by e zeros (listed (take n list') known [])) x r y → TextFor (slip_by day banks known) x r y
+        → TextFor (answer_by f.day zeros (listed (take f.banks list') known [])) x r y → TextFor (slip_by day banks known) x r y
     unfolding printed_by
     by_files t =
         record {

@@ -1,16 +1,15 @@
 -- A message by pieces, and what is printed for it (01, Examples, the slip program).
 -- Assumes nothing.
-use Rattle.std.specs.Prelude.{ℕ, ◌/◌, ◌≡◌, Bool, true, List, [], ◌∷◌, replicate, ltb}
+use Rattle.std.specs.Prelude.{ℕ, ◌/◌, ◌≡◌, Bool, true, List, [], ◌∷◌, replicate, ltb, Result, Ok, Err}
 use Rattle.base.specs.Bytes.{every}
 use Rattle.base.specs.Put.{Put}
 use Rattle.lent.specs.Lent.{Lists, Lent, lent, by}
 use Rattle.frame.specs.Machine.{joined}
 use Rattle.judge.specs.Session.{most, opened, taken, table_taken, closed_of, judged_of}
 use Rattle.judge.specs.declared.Taken.{Taken}
-use Rattle.judge.specs.declared.Closed.{Closed}
-use Rattle.judge.specs.declared.Judged.{Judged}
+use Rattle.lent.specs.declared.Refusal.{Refusal}
+use Rattle.frame.specs.declared.Closing.{Closing}
 use Rattle.files.specs.declared.Given.{Given}
-use Rattle.files.specs.declared.Given.TheVariants.{Files, Refused}
 use Rattle.files.specs.Files.{longest, numbers, given_by}
 use Rattle.lines.specs.Slip.{slip_of, refusal_line}
 
@@ -26,13 +25,18 @@ pub record FedAs (t : Taken) (p : List ℕ) (l : Lists) (table : List ℕ) (r : 
   pub result : r ≡ fed_of t p l table
   pub bytes : table' ≡ table_fed t p l table
 
--- what is printed at a closing
-abbrev pub closed_text : Closed → List ℕ
-closed_text c = by c.outcome (slip_of c.closing) refusal_line
+-- what is printed for a closing, or for a refusal
+abbrev pub told : Result Closing Refusal → List ℕ
+told (Ok k) = slip_of k
+told (Err r) = refusal_line r
 
--- what is printed when the message is over: the closing, or the first refusal
-unfoldable pub answer_of : Taken → List ℕ
-answer_of t = by t.outcome (closed_text (closed_of t.next)) refusal_line
+-- the closing when the message is over, or the first refusal
+unfoldable pub closing_by : Taken → Result Closing Refusal
+closing_by t = by t.outcome (closed_of t.next).closing Err
+
+-- what is printed then
+abbrev pub answer_of : Taken → List ℕ
+answer_of t = told (closing_by t)
 
 -- pieces, each given what the last one left
 unfoldable pub fed_all : Taken → List ℕ → Lists → List (List ℕ) → Taken
@@ -60,14 +64,10 @@ pub record FedBy (t : Taken) (l : Lists) (table : List ℕ) (r : Taken) (table' 
 abbrev pub answer_by : ℕ → List ℕ → Lists → List (List ℕ) → List ℕ
 answer_by e table l ps = answer_of (fed_all (opened e table) table l ps)
 
--- what is printed for a whole message that is judged
-abbrev pub judged_text : Judged → List ℕ
-judged_text j = by j.outcome (slip_of j.closing) refusal_line
-
 -- where the files say something, and where they are refused
-abbrev pub by_files : Given → (ℕ → List ℕ) → List ℕ
-by_files (Files day n) f = f day
-by_files (Refused r) f = refusal_line r
+abbrev pub by_files : Result Given Refusal → (ℕ → List ℕ) → List ℕ
+by_files (Ok g) f = f g.day
+by_files (Err r) f = refusal_line r
 
 -- what is lent by what the files say; the slip's barred list is empty (02 #105)
 abbrev pub lent_by : ℕ → List ℕ → List ℕ → Lent
@@ -76,7 +76,7 @@ lent_by e banks known = lent e (numbers banks) known []
 -- what the program prints for its three files and the uncut message, with a list and a table that it lends
 unfoldable pub printed : List ℕ → List ℕ → List ℕ → ℕ → List ℕ → List ℕ → List ℕ
 printed day banks known room table m =
-    by_files (given_by day banks known room) (λ e. judged_text (judged_of (lent_by e banks known) table m))
+    by_files (given_by day banks known room) (λ e. told (judged_of (lent_by e banks known) table m))
 
 -- and as it works, by pieces
 unfoldable pub printed_by : List ℕ → List ℕ → List ℕ → ℕ → List ℕ → List (List ℕ) → List ℕ

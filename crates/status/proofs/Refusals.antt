@@ -11,8 +11,9 @@ use Rattle.base.specs.Tables.{first_given}
 use Rattle.digits.specs.Digits.{number_of}
 use Rattle.base.proofs.Tables.{ByRows, asked, barred}
 use Rattle.calendar.specs.Calendar.{is_date}
-use Rattle.lent.specs.Lent.{Lent, outcome_number, by}
-use Rattle.lent.specs.declared.Outcome.TheVariants.{Done, Refused as RefusedBy}
+use Rattle.lent.specs.Lent.{Lent, Outcome, outcome_number, by}
+use Rattle.std.specs.Prelude.{Result, Ok, Err}
+use Rattle.lent.specs.declared.Refusal.{Refusal}
 use Rattle.lent.specs.declared.Refusal.TheVariants.{
   NotADay,
   Overflow,
@@ -30,27 +31,25 @@ use Rattle.requests.specs.Requests.{requests_of, is_request_list, request_of}
 use Rattle.answers.specs.Fedjel.{items_of, is_fedjel}
 use Rattle.answers.specs.Answers.{answer_of}
 use Rattle.cover.specs.Judging.{lent_refused, is_answered, place_of, standing_of, stood}
-use Rattle.cover.specs.declared.Standing.TheVariants as standing
 use Rattle.status.specs.declared.reply.Particulars.{Particulars}
-use Rattle.status.specs.declared.reply.Answer.TheVariants.{Written, Refused}
-use Rattle.status.specs.Reply.{reply_number, has_address, are_particulars, room, reply, answer}
+use Rattle.status.specs.Reply.{has_address, are_particulars, room, reply, answer}
 use Rattle.status.specs.CoverStatus.{is_covered, are_cover_particulars, fedsta_outcome}
 use Rattle.status.specs.Refusals.{reply_refusals, fedsta_refusals}
 
 -- a reply is written
-written : (n : ℕ) → ByRows reply_number (Written n) []
+written : (n : ℕ) → ByRows {A = Result ℕ Refusal} outcome_number (Ok n) []
 written n = record { is = refl }
 
 -- a reply: 1, 2, 3, 15, 6, 7, 8, 9
-pub replied : (l : Lent) (m : List ℕ) (p : Particulars) (out : List ℕ) → reply_number (answer l m p out) ≡ first_given (reply_refusals l m p out)
+pub replied : (l : Lent) (m : List ℕ) (p : Particulars) (out : List ℕ) → outcome_number (answer l m p out) ≡ first_given (reply_refusals l m p out)
 unfolding answer
 replied l m p out =
-    (asked (is_date l.day) (Refused NotADay)
-    (after_lists Refused (λ r. refl) l.lists
-    (barred (overflows (rules l) room m) (Refused Overflow)
-    (asked (has_address m) (Refused Address)
-    (asked (are_particulars p) (Refused WrongParticulars)
-    (asked (leb (length (reply l m p)) (length out)) (Refused Room) (written (length (reply l m p))))))))).is
+    (asked (is_date l.day) (Err NotADay)
+    (after_lists Err (λ r. refl) l.lists
+    (barred (overflows (rules l) room m) (Err Overflow)
+    (asked (has_address m) (Err Address)
+    (asked (are_particulars p) (Err WrongParticulars)
+    (asked (leb (length (reply l m p)) (length out)) (Err Room) (written (length (reply l m p))))))))).is
 
 -- a FEDSTA: 1, 11, 12, 13, 8, 9
 pub fedsta : (e : ℕ) (l m id : List ℕ) (covers : Bool) (p : Particulars) (count : ℕ) (out : List ℕ)
@@ -74,7 +73,7 @@ fedsta e l m id covers p count out = go (is_date e) (is_request_list l) (is_fedj
     s = leb 104 (length out)
 
     last : (c f s : Bool)
-        → outcome_number (cond c (RefusedBy Standing) (cond f (cond s Done (RefusedBy Room)) (RefusedBy WrongParticulars)))
+        → outcome_number (cond {A = Outcome} c (Err Standing) (cond f (cond s (Ok tt) (Err Room)) (Err WrongParticulars)))
         ≡ first_given ((13, c) ∷ (8, not f) ∷ (9, not s) ∷ [])
     last true f s = refl
     last false false s = refl
@@ -83,10 +82,10 @@ fedsta e l m id covers p count out = go (is_date e) (is_request_list l) (is_fedj
 
     go : (d r j b : Bool)
         → outcome_number (stood
-        (by (cond d (cond r (cond j Done (RefusedBy Fedjel)) (RefusedBy RequestList)) (RefusedBy NotADay))
-        (cond b (standing.Item k x y) (standing.Refused Standing)) standing.Refused)
-        (λ i a u. cond (is_covered a && not covers) (RefusedBy Standing) (cond f (cond s Done (RefusedBy Room)) (RefusedBy WrongParticulars)))
-        RefusedBy)
+        (by (cond {A = Outcome} d (cond r (cond j (Ok tt) (Err Fedjel)) (Err RequestList)) (Err NotADay))
+        (cond b (Ok (record { place = k; answer = x; sum = y })) (Err Standing)) Err)
+        (λ z. cond {A = Outcome} (is_covered z.answer && not covers) (Err Standing) (cond f (cond s (Ok tt) (Err Room)) (Err WrongParticulars)))
+        Err)
         ≡ first_given ((1, not d) ∷ (11, not r) ∷ (12, not j) ∷ (13, not b || (is_covered x && not covers)) ∷ (8, not f) ∷ (9, not s) ∷ [])
     go false r j b = refl
     go true false j b = refl

@@ -2,24 +2,31 @@
 -- left there.
 -- Assumes nothing.
 use mathlib.Core.Path.{◌≡◌, sym, ap, ◌∙◌}
-use mathlib.Core.Bool.{false, cond}
+use mathlib.Core.Bool.{Bool, true, false, cond}
 use mathlib.Core.List.{List, [], map}
 use Prim.Native.Nat.{ℕ}
 use native.Mathlib.Omega.{arith}
 use lib.ListN.{length, take}
 use lib.Dec.{ltb, eqb}
 use Rattle.base.specs.Bytes.{field}
+use Rattle.std.specs.Prelude.{Result, Ok, Err}
 use Rattle.lent.specs.Lent.{Lent}
+use Rattle.lent.specs.declared.Refusal.{Refusal}
+use Rattle.lent.specs.declared.Refusal.TheVariants as refusal
+use Rattle.frame.specs.declared.Closing.{Closing}
 use Rattle.frame.specs.Verdict.{Rules, Verdict, found_in, overflows, verdict, table_after}
 use Rattle.frame.specs.Machine.{joined}
 use Rattle.kinds.specs.Codes.{rules}
 use Rattle.judge.specs.declared.Closed.{Closed}
-use Rattle.judge.specs.Session.{most, opened, closed_of}
+use Rattle.judge.specs.Session.{most, opened, closing_of, closed_of}
 use Rattle.judge.specs.Feeding.{fed}
 use Rattle.judge.proofs.Great.{Passing, great}
 use Rattle.status.specs.declared.reply.Particulars.{Particulars}
-use Rattle.status.specs.Reply.{saying, room, referred, said}
+use Rattle.status.specs.Reply.{saying, room, verdict_of, referred, said}
 use Rattle.status.proofs.Bounds.{room_length, told_length, told_table}
+
+never : {A : Type 0} {r : Refusal} {v : A} → ◌≡◌ {A = Result A Refusal} (Ok v) (Err r) → ⊥
+never h = cc
 
 -- the table shows in a verdict only by its length
 pub by_length : (R : Rules) (t u m : List ℕ) → length t ≡ length u → verdict R t m ≡ verdict R u m
@@ -50,12 +57,18 @@ module _ (l : Lent) (t : List ℕ) (ps : List (List ℕ)) (g : Passing l) (h : l
   same_verdict : verdict R t m ≡ verdict R room m
   same_verdict = by_length R t room m as_long
 
+  -- closing gives the reply's verdict, or overflow
+  pub session_closing : (closed_of (fed (opened l.day t).next t l.lists ps).0).closing ≡ closing_of (verdict_of l (joined ps))
+  session_closing = ap (λ (c : Closed). c.closing) (great l t ps g (omega arith)).0 ∙ ap closing_of same_verdict
+
   -- what the reply says is what closing gives
-  pub session_verdict : (p : Particulars)
-      → saying l.day (field 10 34 (joined ps)) p (closed_of (fed (opened l.day t).next t l.lists ps).0).closing ≡ said l (joined ps) p
-  session_verdict p =
-      ap (λ (c : Closed). saying l.day (field 10 34 m) p c.closing) (great l t ps g (omega arith)).0
-      ∙ ap (λ (v : Verdict). saying l.day (field 10 34 m) p v.closing) same_verdict
+  pub session_verdict : (p : Particulars) (k : Closing) → (closed_of (fed (opened l.day t).next t l.lists ps).0).closing ≡ Ok k
+      → saying l.day (field 10 34 (joined ps)) p k ≡ said l (joined ps) p
+  session_verdict p k e = ap (saying l.day (field 10 34 m) p) (go (eqb (verdict_of l m).refusal 0) (sym e ∙ session_closing))
+    where
+      go : (b : Bool) → Ok k ≡ cond b (Ok (verdict_of l m).closing) (Err refusal.Overflow) → k ≡ (verdict_of l m).closing
+      go true q = cc
+      go false q = absurd (never q)
 
   -- and its codes are the first of the table
   pub session_codes : overflows R room (joined ps) ≡ false

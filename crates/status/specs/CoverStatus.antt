@@ -1,12 +1,10 @@
 -- The FEDSTA, the answer on cover: its bytes, when it is refused, and what it says (002 sections 4.1, 4.2; 02 #103).
 -- Assumes nothing.
-use Rattle.std.specs.Prelude.{ℕ, ◌≡◌, Bool, cond, not, ◌&&◌, List, [], ◌∷◌, ◌++◌, length, leb, eqb}
+use Rattle.std.specs.Prelude.{ℕ, ◌≡◌, Bool, cond, not, ◌&&◌, List, [], ◌∷◌, ◌++◌, length, leb, eqb, Ok, Err}
 use Rattle.base.specs.Bytes.{ascii, over}
 use Rattle.base.specs.Tables.{first_of}
-use Rattle.lent.specs.Lent.{by}
+use Rattle.lent.specs.Lent.{Outcome, by}
 use Rattle.lent.specs.declared.Refusal.TheVariants as refusal
-use Rattle.lent.specs.declared.Outcome.{Outcome}
-use Rattle.lent.specs.declared.Outcome.TheVariants.{Done, Refused}
 use Rattle.frame.specs.declared.Status.{Status}
 use Rattle.frame.specs.declared.Totals.{Totals}
 use Rattle.cover.specs.Judging.{standing_of, stood}
@@ -52,18 +50,18 @@ are_cover_particulars p count = are_particulars p && leb count 999999
 module _ (e : ℕ) (l m id : List ℕ) (covers : Bool) (p : Particulars) (count : ℕ) where
   -- the FEDSTA of the standing answer
   unfoldable pub fedsta : List ℕ
-  fedsta = stood (standing_of e l m id) (λ k answer sum. fedsta_bytes (cover_said e id p count answer sum)) (λ r. [])
+  fedsta = stood (standing_of e l m id) (λ s. fedsta_bytes (cover_said e id p count s.answer s.sum)) (λ r. [])
 
   -- 1, 11, 12, 13, 8, 9 in this order: 13 also where the answer is 1 and the bank has no cover
   unfoldable pub fedsta_outcome : List ℕ → Outcome
   fedsta_outcome out =
       stood (standing_of e l m id)
-      (λ k answer sum. cond (is_covered answer && not covers)
-      (Refused refusal.Standing)
+      (λ s. cond (is_covered s.answer && not covers)
+      (Err refusal.Standing)
       (cond (are_cover_particulars p count)
-      (cond (leb 104 (length out)) Done (Refused refusal.Room))
-      (Refused refusal.Particulars)))
-      Refused
+      (cond (leb 104 (length out)) (Ok tt) (Err refusal.Room))
+      (Err refusal.Particulars)))
+      Err
 
   -- the output afterwards: the FEDSTA and what stood there beyond it; nothing is altered by a refused call
   unfoldable pub fedsta_output : List ℕ → List ℕ

@@ -1,26 +1,20 @@
 -- The reply to a message: when it is refused, and its bytes (01, Calls and their answers).
 -- Assumes nothing.
-use Rattle.std.specs.Prelude.{ℕ, ◌+◌, ◌/◌, ◌%◌, ◌≡◌, Bool, cond, ◌&&◌, List, [], map, length, replicate, leb, eqb}
+use Rattle.std.specs.Prelude.{ℕ, ◌+◌, ◌/◌, ◌%◌, ◌≡◌, Bool, cond, ◌&&◌, List, [], map, length, replicate, leb, eqb, Result, Ok, Err}
 use Rattle.base.specs.Bytes.{field, over}
 use Rattle.calendar.specs.Calendar.{is_date}
-use Rattle.lent.specs.Lent.{Lent, refusal_number, list_refused, by}
+use Rattle.lent.specs.Lent.{Lent, list_refused, by}
 use Rattle.frame.specs.Records.{lengths, items_of}
 use Rattle.frame.specs.Verdict.{Verdict, found_in, overflows, verdict}
 use Rattle.kinds.specs.Codes.{rules}
+use Rattle.lent.specs.declared.Refusal.{Refusal}
 use Rattle.lent.specs.declared.Refusal.TheVariants.{NotADay, Overflow, Address, Particulars as WrongParticulars, Room}
 use Rattle.frame.specs.declared.Closing.{Closing}
 use Rattle.judge.specs.Session.{most}
 use Rattle.frame.specs.declared.Status.{Status}
 use Rattle.status.specs.declared.reply.Particulars.{Particulars}
-use Rattle.status.specs.declared.reply.Answer.{Answer}
-use Rattle.status.specs.declared.reply.Answer.TheVariants.{Written, Refused}
 use Rattle.status.specs.Records.{written, is_address}
 use Rattle.fields.specs.Fields.{is_duplicate}
-
--- the number of an answer: 0, or the refusal's
-abbrev pub reply_number : Answer → ℕ
-reply_number (Written n) = 0
-reply_number (Refused r) = refusal_number r
 
 -- refusal 7: the message has an address for the reply
 unfoldable pub has_address : List ℕ → Bool
@@ -74,28 +68,28 @@ module _ (l : Lent) (m : List ℕ) where
   reply p = written (said p) referred (items_of lengths m)
 
   -- refusals 1, 2, 3, 15, 6, 7, 8, 9 in this order; else the length
-  unfoldable pub answer : Particulars → List ℕ → Answer
+  unfoldable pub answer : Particulars → List ℕ → Result ℕ Refusal
   answer p out =
       cond (is_date l.day)
       (by (list_refused l.lists)
       (cond (overflows (rules l) room m)
-      (Refused Overflow)
+      (Err Overflow)
       (cond (has_address m)
       (cond (are_particulars p)
-      (cond (leb (length (reply p)) (length out)) (Written (length (reply p))) (Refused Room))
-      (Refused WrongParticulars))
-      (Refused Address)))
-      Refused)
-      (Refused NotADay)
+      (cond (leb (length (reply p)) (length out)) (Ok (length (reply p))) (Err Room))
+      (Err WrongParticulars))
+      (Err Address)))
+      Err)
+      (Err NotADay)
 
   -- the output afterwards: the reply and what stood there beyond it; nothing is altered by a refused call
   unfoldable pub output : Particulars → List ℕ → List ℕ
   output p out = put (answer p out)
     where
-      put : Answer → List ℕ
-      put (Written n) = over out 0 (reply p)
-      put (Refused r) = out
+      put : Result ℕ Refusal → List ℕ
+      put (Ok n) = over out 0 (reply p)
+      put (Err r) = out
 
-pub record Replied (l : Lent) (m : List ℕ) (p : Particulars) (out : List ℕ) (r : Answer) (out' : List ℕ) : Type 0 where
+pub record Replied (l : Lent) (m : List ℕ) (p : Particulars) (out : List ℕ) (r : Result ℕ Refusal) (out' : List ℕ) : Type 0 where
   pub result : r ≡ answer l m p out
   pub bytes : out' ≡ output l m p out

@@ -34,8 +34,7 @@ pub(crate) fn put_head(out: &mut [u8], kind: &[u8], s: Status)
     requires { (56 ≤ length out.old) × (length kind.now ≡ 6) × Writable s }
     ensures { out.new ≡ over out.old 0 (head_record kind.now s) }
 {
-    let id = s.id;
-    put_address(out, kind, s.duplicate, &id);
+    put_address(out, kind, s.duplicate, &s.id);
     put_own(&mut out[34..], s);
 }
 
@@ -55,9 +54,7 @@ pub(crate) fn put_foot(out: &mut [u8], s: Status)
     requires { (48 ≤ length out.old) × Writable s }
     ensures { out.new ≡ over out.old 0 (foot_record s) }
 {
-    let a = s.accepted;
-    let r = s.refused;
     text::put_at(out, 0, b"03");
-    put_totals(&mut out[2..], a, r);
+    put_totals(&mut out[2..], s.accepted, s.refused);
     text::put_at(out, 46, b"\r\n");
 }

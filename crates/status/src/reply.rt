@@ -2,16 +2,17 @@
 ghost use Rattle.std.specs.Prelude.{◌≡◌, ◌+◌, ◌*◌, ◌^◌, ◌≤◌, ◌<◌, length, take};
 ghost use Rattle.base.specs.Bytes.{over};
 ghost use Rattle.frame.specs.Records.{lengths, items_of};
-ghost use Rattle.lent.specs.Lent.{lent};
+ghost use Rattle.lent.specs.Lent.{lent_in};
 ghost use Rattle.judge.specs.Session.{most};
 ghost use Rattle.status.specs.Records.{reference, references, written};
 ghost use Rattle.status.specs.Reply.{has_address, is_time, are_particulars, saying, Replied};
 ghost use Rattle.status.specs.Writing.{Writable, Referable};
 
 use crate::records::{put_foot, put_head};
+use crate::{FOOT, HEAD, REFERENCE};
 use frame::Status;
 use judge::Session;
-use lent::{Outcome, Refusal};
+use lent::{Lists, Refusal};
 
 // What the caller says of a reply beside its date: duplicate code 0 or @, number to 9999, time hhmmss.
 #[derive(Clone, Copy)]
@@ -19,13 +20,6 @@ pub struct Particulars {
     pub duplicate: u8,
     pub number: u32,
     pub time: u32,
-}
-
-// The reply's length, or why there is none.
-#[derive(Clone, Copy)]
-pub enum Answer {
-    Written(usize),
-    Refused(Refusal),
 }
 
 // A reference, 63 bytes and its ending, at the front of what is lent.
@@ -36,7 +30,7 @@ fn put_reference(out: &mut [u8], place: u64, code: u8, item: &[u8])
     text::put_at(out, 0, b"02");
     digits::put_at(out, 2, 6, place);
     digits::put_at(out, 8, 2, code as u64);
-    text::put_at(out, 10, b"                             ");
+    text::put_at(out, 10, &[b' '; 29]);
     text::put_at(out, 39, &item[50..74]);
     text::put_at(out, 63, b"\r\n");
 }
@@ -47,13 +41,11 @@ fn put_references(out: &mut [u8], message: &[u8], codes: &[u8], n: usize)
     requires n_in_bounds { n * 65 ≤ length out.old }
     ensures { out.new ≡ over out.old 0 (references 1 codes.now (take n (items_of lengths message.now))) }
 {
-    let mut i = 0;
-    while i < n {
-        let at = i * 65;
+    for i in 0..n {
+        let at = i * REFERENCE;
         let from = frame::HEAD_ENDED + i * frame::ITEM_ENDED;
-        let end = from + Session::ITEM;
-        put_reference(&mut out[at..], i as u64 + 1, codes[i], &message[from..end]);
-        i += 1;
+        let item = &message[from..from + frame::ITEM];
+        put_reference(&mut out[at..], i as u64 + 1, codes[i], item);
     }
 }
 
@@ -64,24 +56,21 @@ fn put_reply(out: &mut [u8], s: Status, message: &[u8], codes: &[u8])
     ensures { out.new
         ≡ over out.old 0 (written s codes.now (take s.references (items_of lengths message.now))) }
 {
-    let n = s.references;
     put_head(out, b"STATUS", s);
-    put_references(&mut out[56..], message, codes, n);
-    let at = 56 + n * 65;
-    put_foot(&mut out[at..], s);
+    put_references(&mut out[HEAD..], message, codes, s.references);
+    put_foot(&mut out[HEAD + s.references * REFERENCE..], s);
 }
 
 // The message has an address for the reply.
+#[tactic(auto, using(std::proofs::lemmas::Bool::Decides::nat_tests), unfolding(crate::specs::Reply::has_address))]
 fn has_address(message: &[u8]) -> bool
     ensures { result ≡ has_address message.now }
 {
-    if message.len() < 34 {
-        return false;
-    }
-    text::is_plain(&message[9..34])
+    message.len() >= 34 && text::is_plain(&message[9..34])
 }
 
 // hhmmss by hours, minutes, seconds.
+#[tactic(auto, unfolding(crate::specs::Reply::is_time))]
 fn is_time(t: u32) -> bool
     ensures { result ≡ is_time t }
 {
@@ -89,6 +78,7 @@ fn is_time(t: u32) -> bool
 }
 
 // Duplicate code, number and time of a reply.
+#[tactic(auto, unfolding(crate::specs::Reply::are_particulars))]
 pub(crate) fn are_particulars(p: Particulars) -> bool
     ensures { result ≡ are_particulars p }
 {
@@ -100,54 +90,42 @@ fn said(day: u32, id: [u8; 25], p: Particulars, c: frame::Closing) -> Status
     requires { c.accepted.count + c.refused.count ≤ most }
     ensures { result ≡ saying day id p c }
 {
-    let a = c.accepted;
-    let r = c.refused;
     Status {
         duplicate: p.duplicate,
-        id: id,
+        id,
         date: day,
         number: p.number,
         time: p.time,
         code: c.code,
-        accepted: a,
-        refused: r,
-        references: (a.count + r.count) as usize,
+        accepted: c.accepted,
+        refused: c.refused,
+        references: (c.accepted.count + c.refused.count) as usize,
     }
 }
 
-// The reply to the whole message goes to the front of the output: refusals 1, 2, 3, 15, 6, 7, 8, 9. The answer is its length.
+// The reply to the whole message goes to the front of the output: refusals 1, 2, 3, 15, 6, 7, 8, 9. What is given is its length.
 pub fn write(
     day: u32,
-    banks: &[u32],
-    known: &[u8],
-    barred: &[u32],
+    lists: &Lists,
     message: &[u8],
     particulars: Particulars,
     out: &mut [u8],
-) -> Answer
-    ensures { Replied (lent day banks.now known.now barred.now) message.now particulars
-        out.old result out.new }
+) -> Result<usize, Refusal>
+    ensures { Replied (lent_in day lists.now) message.now particulars out.old result out.new }
 {
     let mut codes = [0u8; Session::MOST];
-    let j = message::judge(day, banks, known, barred, &mut codes, message);
-    let o = j.outcome;
-    let c = j.closing;
-    match o {
-        Outcome::Refused(r) => Answer::Refused(r),
-        Outcome::Done => {
-            if !has_address(message) {
-                return Answer::Refused(Refusal::Address);
-            }
-            if !are_particulars(particulars) {
-                return Answer::Refused(Refusal::Particulars);
-            }
-            let s = said(day, frame::identifier(message), particulars, c);
-            let n = 104 + s.references * 65;
-            if out.len() < n {
-                return Answer::Refused(Refusal::Room);
-            }
-            put_reply(out, s, message, &codes);
-            Answer::Written(n)
-        }
+    let closing = message::judge(day, lists, &mut codes, message)?;
+    if !has_address(message) {
+        return Err(Refusal::Address);
     }
+    if !are_particulars(particulars) {
+        return Err(Refusal::Particulars);
+    }
+    let s = said(day, frame::identifier(message), particulars, closing);
+    let n = HEAD + FOOT + s.references * REFERENCE;
+    if out.len() < n {
+        return Err(Refusal::Room);
+    }
+    put_reply(out, s, message, &codes);
+    Ok(n)
 }

@@ -19,11 +19,8 @@ pub fn is_plain(s: &[u8]) -> bool
     ensures { result ≡ is_plain s.now }
 {
     let mut ok = true;
-    let mut i = 0;
-    while i < s.len() {
-        let b = s[i];
-        ok = ok & ((b >= 0x20) & (b <= 0x7e));
-        i += 1;
+    for b in s {
+        ok &= (*b >= 0x20) & (*b <= 0x7e);
     }
     ok
 }
@@ -58,10 +55,8 @@ fn all_letters(s: &[u8]) -> bool
     ensures { result ≡ is_text s.now }
 {
     let mut ok = true;
-    let mut i = 0;
-    while i < s.len() {
-        ok = ok & is_letter(s[i]);
-        i += 1;
+    for b in s {
+        ok &= is_letter(*b);
     }
     ok
 }
@@ -80,32 +75,18 @@ pub fn is_text(s: &[u8]) -> bool
 pub fn is_blank(s: &[u8]) -> bool
     ensures { result ≡ is_blank s.now }
 {
-    let mut i = 0;
-    while i < s.len() {
-        if s[i] != b' ' {
-            return false;
-        }
-        i += 1;
-    }
-    true
+    s.iter().all(|b| *b == b' ')
 }
 
 // Each byte is a space or a zero (002 section 1.3.1, customer id and owner).
 pub fn is_blank_or_zero(s: &[u8]) -> bool
     ensures { result ≡ is_blank_or_zero s.now }
 {
-    let mut i = 0;
-    while i < s.len() {
-        let b = s[i];
-        if !((b == b' ') | (b == b'0')) {
-            return false;
-        }
-        i += 1;
-    }
-    true
+    s.iter().all(|b| (*b == b' ') | (*b == b'0'))
 }
 
 // Whether the two are the same. No branch on a byte, so that the compiler takes many at a time.
+// Kept: (b) `s == t` compares four bytes and calls for the rest: 7.5 ns for each request of a list whose identifiers begin alike, this 2.2.
 pub fn is_same(s: &[u8], t: &[u8]) -> bool
     ensures { result ≡ same s.now t.now }
 {
@@ -113,15 +94,14 @@ pub fn is_same(s: &[u8], t: &[u8]) -> bool
         return false;
     }
     let mut ok = true;
-    let mut i = 0;
-    while i < s.len() {
-        ok = ok & (s[i] == t[i]);
-        i += 1;
+    for (i, b) in s.iter().enumerate() {
+        ok &= *b == t[i];
     }
     ok
 }
 
 // The bytes at the front of what is lent. Where it is shorter, the answer is false and nothing is written.
+#[tactic(auto, unfolding(crate::specs::Text::with_bytes, base::specs::Bytes::over))]
 pub fn put(out: &mut [u8], s: &[u8]) -> bool
     ensures answer { result ≡ leb (length s.now) (length out.old) }
     ensures bytes { out.new ≡ with_bytes out.old s.now }
@@ -129,16 +109,14 @@ pub fn put(out: &mut [u8], s: &[u8]) -> bool
     if out.len() < s.len() {
         return false;
     }
-    let mut i = 0;
-    while i < s.len() {
-        out[i] = s[i];
-        i += 1;
-    }
+    out[..s.len()].copy_from_slice(s);
     true
 }
 
+// Kept: a place, and no Option: what may not change is that it can't fail (`after_bytes`); each writer goes on from the place, where it is right.
 // The bytes at a place of what is lent, and the place after them. Where they don't fit, the answer is the place itself and
 // nothing is written.
+#[tactic(auto, unfolding(crate::specs::Text::with_bytes, crate::specs::Text::with_bytes_at, crate::specs::Text::after_bytes, base::specs::Bytes::over))]
 pub fn put_at(out: &mut [u8], at: usize, s: &[u8]) -> usize
     ensures place { result ≡ after_bytes out.old at s.now }
     ensures bytes { out.new ≡ with_bytes_at out.old at s.now }

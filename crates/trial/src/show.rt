@@ -2,18 +2,14 @@
 use console::put_next;
 
 pub(crate) fn put_numbers(rt: &impl Print, s: &[u64]) {
-    let mut i = 0;
-    while i < s.len() {
-        put_next(rt, s[i]);
-        i += 1;
+    for n in s {
+        put_next(rt, *n);
     }
 }
 
 pub(crate) fn put_bytes(rt: &impl Print, s: &[u8]) {
-    let mut i = 0;
-    while i < s.len() {
-        put_next(rt, s[i] as u64);
-        i += 1;
+    for b in s {
+        put_next(rt, u64::from(*b));
     }
 }
 
@@ -21,11 +17,9 @@ pub(crate) fn put_bytes(rt: &impl Print, s: &[u8]) {
 pub(crate) fn put_sums(rt: &impl Print, s: &[u8]) {
     let mut sum: u64 = 0;
     let mut all: u64 = 0;
-    let mut i = 0;
-    while i < s.len() {
-        sum = std::num::wrapping_add_u64(sum, s[i] as u64);
-        all = std::num::wrapping_add_u64(all, sum);
-        i += 1;
+    for b in s {
+        sum = sum.wrapping_add(u64::from(*b));
+        all = all.wrapping_add(sum);
     }
     put_next(rt, sum);
     put_next(rt, all);
@@ -33,7 +27,7 @@ pub(crate) fn put_sums(rt: &impl Print, s: &[u8]) {
 
 // The number of a call, and what stands in the numbers, the identifier and the table that it was lent.
 pub(crate) fn put_lent(rt: &impl Print, n: u32, numbers: &[u64], id: &[u8], table: &[u8]) {
-    put_next(rt, n as u64);
+    put_next(rt, u64::from(n));
     put_numbers(rt, numbers);
     put_sums(rt, id);
     put_sums(rt, table);

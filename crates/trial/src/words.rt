@@ -1,23 +1,56 @@
-// The words of a script: sizes, lists, and texts, built by lines or made of a base text.
+// The words of a script: sizes, and texts, built by lines or made of a base text; and the case that a line is.
 ghost use Rattle.std.specs.Prelude.{◌+◌, ◌-◌, ◌≤◌, length};
 ghost use Rattle.base.specs.Counts.{IsPrefixLen};
 
-use script::{end_of, field};
+use lent::Lists;
+use script::field;
+use text::put_at;
 
-// What the script has set: the clearing day, where the lists start in the script, the length of the base text, how the sizes of session,
-// numbers and identifier lie to the right ones, as three digits, and a reply's particulars and output.
+// What the script has set: the clearing day, the lines of the lists, the length of the base text, how the sizes of session, numbers and
+// identifier lie to the right ones, as three digits, and a reply's particulars and output.
 #[derive(Clone, Copy)]
-pub(crate) struct Given {
+pub(crate) struct Given<'a> {
     pub(crate) day: u32,
-    pub(crate) banks: usize,
-    pub(crate) known: usize,
-    pub(crate) barred: usize,
+    pub(crate) banks: &'a [u8],
+    pub(crate) known: &'a [u8],
+    pub(crate) barred: &'a [u8],
     pub(crate) base: usize,
     pub(crate) sizes: u32,
     pub(crate) duplicate: u8,
     pub(crate) number: u32,
     pub(crate) time: u32,
     pub(crate) room: usize,
+}
+
+// A case: its text and its own words, what is given, and the lists.
+#[derive(Clone, Copy)]
+pub(crate) struct Case<'a> {
+    pub(crate) text: &'a [u8],
+    pub(crate) words: &'a [u8],
+    pub(crate) given: Given<'a>,
+    pub(crate) lists: Lists<'a>,
+}
+
+impl<'a> Case<'a> {
+    // The same with another text.
+    pub(crate) fn with(self, text: &'a [u8]) -> Case<'a> {
+        Case { text, ..self }
+    }
+
+    // The number in a field of its words.
+    pub(crate) fn field(self, from: usize, end: usize) -> u32 {
+        field(self.words, from, end)
+    }
+
+    // Its text in two: so many bytes as a field of its words says, and the rest.
+    pub(crate) fn halves(self, from: usize, end: usize) -> (&'a [u8], &'a [u8]) {
+        cut(self.text, u64::from(self.field(from, end)))
+    }
+
+    // Its words from a place on.
+    pub(crate) fn onward(self, from: usize) -> &'a [u8] {
+        self.words.get(from..).unwrap_or(&[])
+    }
 }
 
 // The size of a buffer that is to have so many elements, by the last digit of a number: 0 one too few, 2 one too many, else right.
@@ -32,14 +65,9 @@ pub(crate) fn size(right: usize, sign: u32) -> usize
     }
 }
 
-// The lesser of two: where a part ends that doesn't go beyond the whole.
-pub(crate) fn least(a: usize, whole: usize) -> usize
-    ensures { (result ≤ a) × (result ≤ whole) }
-{
-    if a > whole {
-        return whole;
-    }
-    a
+// The first so many bytes, all of fewer, and the rest.
+pub(crate) fn cut(s: &[u8], n: u64) -> (&[u8], &[u8]) {
+    s.split_at((n as usize).min(s.len()))
 }
 
 // So many bytes after a place, or at the end.
@@ -47,78 +75,32 @@ pub(crate) fn ahead(at: usize, n: usize, len: usize) -> usize
     requires { at ≤ len }
     ensures { (at ≤ result) × (result ≤ len) × (at + n ≤ result + (at + n - len)) }
 {
-    if len - at < n {
-        return len;
-    }
-    at + n
-}
-
-// The place, or the nearest one from a first to a last.
-fn between(first: usize, place: usize, last: usize) -> usize
-    requires { first ≤ last }
-    ensures { (first ≤ result) × (result ≤ last) }
-{
-    if place < first {
-        return first;
-    }
-    if place > last {
-        return last;
-    }
-    place
-}
-
-// Bytes are put into the memory from a place on, if there is room: the place after them.
-fn append(memory: &mut [u8], from: usize, r: &[u8]) -> usize {
-    if from > memory.len() {
-        return from;
-    }
-    if memory.len() - from < r.len() {
-        return from;
-    }
-    text::put(&mut memory[from..], r);
-    from + r.len()
-}
-
-// A number of so many digits, some bytes after a place.
-fn number(memory: &mut [u8], from: usize, shift: usize, w: usize, n: u64) {
-    if from > memory.len() {
-        return;
-    }
-    if memory.len() - from < shift {
-        return;
-    }
-    let at = from + shift;
-    digits::put_number(&mut memory[at..], w, n);
+    at + n.min(len - at)
 }
 
 // The bytes of a line and its ending: 0Ah after /, 0Dh 0Ah after +, else none.
 pub(crate) fn add(memory: &mut [u8], at: usize, kind: u8, r: &[u8]) -> usize {
-    let end = append(memory, at, r);
-    if kind == b'/' {
-        return append(memory, end, b"\n");
+    let end = put_at(memory, at, r);
+    match kind {
+        b'/' => put_at(memory, end, b"\n"),
+        b'+' => put_at(memory, end, b"\r\n"),
+        _ => end,
     }
-    if kind == b'+' {
-        return append(memory, end, b"\r\n");
-    }
-    end
 }
 
 // Bytes and an ending so many times, each time with its own number over them.
 fn repeated(
     memory: &mut [u8],
-    start: usize,
+    mut at: usize,
     count: u64,
     shift: usize,
     w: usize,
     kind: u8,
     r: &[u8],
 ) -> usize {
-    let mut at = start;
-    let mut k = 0;
-    while k < count {
+    for k in 1..=count {
         let end = add(memory, at, kind, r);
-        k += 1;
-        number(memory, at, shift, w, k);
+        digits::put_at(memory, at.saturating_add(shift), w, k);
         at = end;
     }
     at
@@ -134,30 +116,22 @@ pub(crate) fn add_many(memory: &mut [u8], at: usize, r: &[u8]) -> usize {
     repeated(memory, at, field(r, 0, 6) as u64, shift, w, r[8], &r[9..])
 }
 
-// A hexadecimal digit, 0 to 9 and a to f; of another byte a number that means nothing.
-fn nibble(b: u8) -> usize
-    ensures { result ≤ 42 }
+// A hexadecimal digit; of another byte 0.
+fn nibble(b: u8) -> u8
+    ensures { result ≤ 15 }
 {
-    (b % 16 + b / 64 * 9) as usize
+    char::from(b).to_digit(16).unwrap_or(0) as u8
 }
 
-// The bytes that stand between two places of a line, two hexadecimal digits each, are put into the text from a place on, as far as there is
-// room: the place after them.
-fn append_hex(text: &mut [u8], from: usize, r: &[u8], start: usize, end: usize) -> usize
-    requires { end ≤ length r.now }
-{
-    let mut at = from;
-    let mut k = start;
-    while k < end {
-        if end - k < 2 {
-            return at;
-        }
+// The bytes that a text spells, two hexadecimal digits each, are put into the text from a place on, as far as there is room: the place
+// after them.
+fn put_hex(text: &mut [u8], mut at: usize, r: &[u8]) -> usize {
+    for [high, low] in r.as_chunks::<2>().0 {
         if at >= text.len() {
-            return at;
+            break;
         }
-        text[at] = ((nibble(r[k]) * 16 + nibble(r[k + 1])) % 256) as u8;
+        text[at] = nibble(*high) * 16 + nibble(*low);
         at += 1;
-        k += 2;
     }
     at
 }
@@ -169,16 +143,11 @@ pub(crate) fn changed(text: &mut [u8], base: &[u8], r: &[u8]) -> usize
 {
     let mut at = 0;
     let mut from = 0;
-    let mut i = 0;
-    while i < r.len() {
-        let end = end_of(r, i + 1, b' ');
-        let first = between(from, field(r, i + 1, i + 5) as usize, base.len());
-        let gone = field(r, i + 5, i + 9) as usize;
-        at = append(text, at, &base[from..first]);
-        at = append_hex(text, at, r, i + 9, end);
-        from = ahead(first, gone, base.len());
-        i = end;
+    for change in r.split(|b| *b == b' ').skip(1) {
+        let first = (field(change, 0, 4) as usize).clamp(from, base.len());
+        at = put_at(text, at, &base[from..first]);
+        at = put_hex(text, at, change.get(8..).unwrap_or(&[]));
+        from = ahead(first, field(change, 4, 8) as usize, base.len());
     }
-    let n = append(text, at, &base[from..]);
-    least(n, text.len())
+    put_at(text, at, &base[from..]).min(text.len())
 }

@@ -14,41 +14,40 @@ pub struct View<'a> {
     pub at: usize,
 }
 
-// A view of a message, at its head.
-pub fn new<'a>(message: &'a [u8]) -> View<'a>
-    ensures { result ≡ begun message.entry }
-{
-    View { message, at: 0 }
-}
+impl<'a> View<'a> {
+    // A view of a message, at its head.
+    pub fn new(message: &'a [u8]) -> View<'a>
+        ensures { result ≡ begun message.entry }
+    {
+        View { message, at: 0 }
+    }
 
-// What stands at the view's position.
-pub fn record<'a>(view: View<'a>) -> Record
-    ensures { result ≡ met view.entry }
-{
-    frame::record_at(view.message, view.at)
+    // What stands at the view's position.
+    pub fn record(self) -> Record
+        ensures { result ≡ met self.entry }
+    {
+        frame::record_at(self.message, self.at)
+    }
+
+    // The same message, at the position after the record that stands there; at a break or the end the view stays.
+    pub fn after(self) -> View<'a>
+        ensures { result ≡ moved self.entry }
+    {
+        View {
+            message: self.message,
+            at: place_after(self.message, self.at),
+        }
+    }
 }
 
 // The position after the record that stands at a position; at a break or the end, the same position.
+#[tactic(auto, unfolding(crate::specs::Views::next_at))]
 fn place_after(message: &[u8], at: usize) -> usize
     ensures { result ≡ next_at message.now at }
 {
     match frame::record_at(message, at) {
-        Record::Head { start: _, next } => next,
-        Record::Item { start: _, next } => next,
-        Record::Foot { start: _, next } => next,
-        Record::Break => at,
-        Record::End => at,
-    }
-}
-
-// The same message, at the position after the record that stands there; at a break or the end the view stays.
-pub fn after<'a>(view: View<'a>) -> View<'a>
-    ensures { result ≡ moved view.entry }
-{
-    let at = place_after(view.message, view.at);
-    View {
-        message: view.message,
-        at,
+        Record::Head { next, .. } | Record::Item { next, .. } | Record::Foot { next, .. } => next,
+        Record::Break | Record::End => at,
     }
 }
 
@@ -56,13 +55,12 @@ pub fn after<'a>(view: View<'a>) -> View<'a>
 pub fn met_at(message: &[u8], at: usize) -> Record
     ensures { result ≡ met (view_at message.entry at) }
 {
-    record(View { message, at })
+    View { message, at }.record()
 }
 
 // The position of a view that was at a position and goes on.
 pub fn moved_from(message: &[u8], at: usize) -> usize
     ensures { result ≡ (moved (view_at message.entry at)).at }
 {
-    let view = after(View { message, at });
-    view.at
+    View { message, at }.after().at
 }

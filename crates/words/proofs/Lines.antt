@@ -1,93 +1,109 @@
--- Where a line of a table begins and ends, byte by byte; and the lines of a table that is made of words are these words.
+-- Where a line of a table begins and ends; and the lines of a table that is made of words are these words.
 -- Assumes nothing.
 use mathlib.Core.Path.{◌≡◌, refl, sym, ap, ◌∙◌}
-use mathlib.Core.Bool.{Bool, true, not, ◌&&◌}
+use mathlib.Core.Bool.{Bool, true, false, cond, not, ◌&&◌}
 use mathlib.Core.List.{List, [], ◌∷◌, ◌++◌}
 use Prim.Native.Nat.{ℕ, zero, suc, ◌+◌, ◌-◌, ◌≤◌, ◌<◌}
 use native.Mathlib.Omega.{arith}
 use lib.Dec.{eqb}
-use lib.ListN.{length, get_or, take, drop}
-use lib.Seq.{take_at}
-use borrow.Author.Tests.{eq-eqb, ne_eqb, not-true}
+use lib.ListN.{length, get_or, take, drop, length-drop}
+use lib.Seq.{take_at, take_all}
+use borrow.Author.Tests.{ltb-true, ltb-false, not-true}
+use Rattle.std.proofs.Common.{Option, Some, None}
+use Rattle.std.specs.Prelude.{position, nat_lt, MatchOption}
+use Rattle.std.specs.List.{prefix_len}
 use Rattle.base.specs.Bytes.{every}
 use Rattle.base.proofs.Every.{both}
-use Rattle.base.proofs.Walk.{step, done}
 use Rattle.text.specs.Text.{with_bytes_at, after_bytes}
 use Rattle.text.proofs.At.{PutAt}
 use Rattle.words.specs.Lines.{line_length, after_line, after_lines, line_at}
 
--- at place i of the line that begins at a place, what follows it is what follows from there
-pub record Looking (t : List ℕ) (from i : ℕ) : Type 0 where
-  pub low : i ≤ length t
-  pub same : after_line (drop i t) ≡ after_line (drop from t)
+-- the bytes before the first line end are the first line
+passed : (t : List ℕ) → prefix_len (λ b. not (eqb b 10)) t ≡ line_length t
+passed [] = refl
+passed (b ∷ t) = go (eqb b 10) (passed t)
+  where
+    go : (e : Bool) → prefix_len (λ x. not (eqb x 10)) t ≡ line_length t
+        → cond (not e) (1 + prefix_len (λ x. not (eqb x 10)) t) 0 ≡ cond e 0 (line_length t + 1)
+    go true h = refl
+    go false h = omega arith
 
-pub look : (t : List ℕ) (from : ℕ) → from ≤ length t → Looking t from from
-look t from h = record { low = h; same = refl }
+-- what follows a line that has an end
+after_end : (t : List ℕ) → line_length t < length t → drop (line_length t + 1) t ≡ after_line t
+after_end [] h = absurd (omega arith)
+after_end (b ∷ t) h = go (eqb b 10) h (after_end t)
+  where
+    go : (e : Bool) → cond e 0 (line_length t + 1) < length (b ∷ t) → (line_length t < length t → drop (line_length t + 1) t ≡ after_line t)
+        → drop (cond e 0 (line_length t + 1) + 1) (b ∷ t) ≡ cond e t (after_line t)
+    go true h k = refl
+    go false h k =
+        let z : line_length t + 1 + 1 ≡ suc (line_length t + 1) = omega arith in
+        rw z (k (omega arith))
 
-module _ {t : List ℕ} {from i : ℕ} (g : Looking t from i) where
-  pub look_on : i < length t → (get_or t i 0 ≡ 0x0a → ⊥) → Looking t from (i + 1)
-  look_on h z =
-      let s : after_line (drop i t) ≡ after_line (drop (i + 1) t) = rw (step t i h, ne_eqb (get_or t i 0) 0x0a z) in
-      record { low = omega arith; same = sym s ∙ g.same }
+-- and a line that has none
+after_none : (t : List ℕ) → length t ≤ line_length t → after_line t ≡ []
+after_none [] h = refl
+after_none (b ∷ t) h = go (eqb b 10) h (after_none t)
+  where
+    go : (e : Bool) → length (b ∷ t) ≤ cond e 0 (line_length t + 1) → (length t ≤ line_length t → after_line t ≡ []) → cond e t (after_line t) ≡ []
+    go true h k = absurd (omega arith)
+    go false h k = k (omega arith)
 
-  pub found : i < length t → get_or t i 0 ≡ 0x0a → drop (i + 1) t ≡ after_line (drop from t)
-  found h z =
-      let s : after_line (drop i t) ≡ drop (i + 1) t = rw (step t i h, eq-eqb (get_or t i 0) 0x0a z) in
-      sym s ∙ g.same
+-- what the place of the first line end says
+told : (n l : ℕ) (e : Bool) (r : Option ℕ) → nat_lt n l ≡ e → cond e (Some n) None ≡ r → MatchOption r (l ≤ n) (λ k. (k ≡ n) × (n < l))
+told n l true (Some k) e q = (sym (let x : n ≡ k = cc in x), ltb-true n l e)
+told n l true None e q = absurd (cc)
+told n l false (Some k) e q = absurd (cc)
+told n l false None e q = ltb-false n l e
 
-  pub not_found : length t ≤ i → drop i t ≡ after_line (drop from t)
-  not_found h = let e = done t i h in e ∙ sym (ap after_line e) ∙ g.same
+module _ (t : List ℕ) {r : Option ℕ} (p : r ≡ position (λ b. eqb b 10) t) where
+  there : {i : ℕ} → r ≡ Some i → (i ≡ line_length t) × (line_length t < length t)
+  there {i} e =
+      let h = told (prefix_len (λ b. not (eqb b 10)) t) (length t) _ (Some i) refl (sym p ∙ e) in
+      rw (passed t) at h
+
+  none : r ≡ None → length t ≤ line_length t
+  none e =
+      let h = told (prefix_len (λ b. not (eqb b 10)) t) (length t) _ None refl (sym p ∙ e) in
+      rw (passed t) at h
+
+  pub inside : {i : ℕ} → r ≡ Some i → i < length t
+  inside e = let h = there e in omega (arith, h.0, h.1)
+
+  pub line : {i : ℕ} → r ≡ Some i → take i t ≡ take (line_length t) t
+  line e = ap (λ (n : ℕ). take n t) (there e).0
+
+  pub whole : r ≡ None → t ≡ take (line_length t) t
+  whole e = sym (take_all (line_length t) t (none e))
+
+  pub rest : {i : ℕ} → r ≡ Some i → take (length t - (i + 1)) (drop (i + 1) t) ≡ after_line t
+  rest {i} e =
+      let h = there e in
+      let d = take_all (length t - (i + 1)) (drop (i + 1) t) (omega (arith, length-drop (i + 1) t)) in
+      d ∙ ap (λ (n : ℕ). drop (n + 1) t) h.0 ∙ after_end t h.1
+
+  pub no_rest : r ≡ None → [] ≡ after_line t
+  no_rest e = sym (after_none t (none e))
 
 -- at the k-th line, the lines to go lead where all of them do
-pub record Going (t : List ℕ) (n from k : ℕ) : Type 0 where
-  pub low : from ≤ length t
-  pub some : k ≤ n
-  pub same : after_lines (drop from t) (n - k) ≡ after_lines t n
+pub record Going (t : List ℕ) (n : ℕ) (rest : List ℕ) (k : ℕ) : Type 0 where
+  pub same : after_lines rest (n - k) ≡ after_lines t n
 
-pub begin : (t : List ℕ) (n : ℕ) → Going t n 0 0
-begin t n = let z : n - 0 ≡ n = omega arith in record { low = omega arith; some = omega arith; same = ap (after_lines t) z }
+pub begin : (t : List ℕ) (n : ℕ) → Going t n t 0
+begin t n = let z : n - 0 ≡ n = omega arith in record { same = ap (after_lines t) z }
 
-module _ {t : List ℕ} {n from k : ℕ} (g : Going t n from k) where
-  pub on : (r : ℕ) → k < n → (r ≤ length t) × (drop r t ≡ after_line (drop from t)) → Going t n r (k + 1)
-  on r h e =
+module _ {t : List ℕ} {n : ℕ} {rest : List ℕ} {k : ℕ} (g : Going t n rest k) where
+  pub on : k < n → {r : List ℕ} → r ≡ after_line rest → Going t n r (k + 1)
+  on h {r} e =
       let z : n - k ≡ suc (n - (k + 1)) = omega arith in
-      let s : after_lines (drop r t) (n - (k + 1)) ≡ after_lines (drop from t) (suc (n - (k + 1))) = ap (λ (l : List ℕ). after_lines l (n - (k + 1))) e.1 in
-      record { low = e.0; some = omega arith; same = s ∙ sym (ap (after_lines (drop from t)) z) ∙ g.same }
+      record { same = ap (λ (l : List ℕ). after_lines l (n - (k + 1))) e ∙ sym (ap (after_lines rest) z) ∙ g.same }
 
-  pub there : n ≤ k → drop from t ≡ after_lines t n
-  there h = let z : n - k ≡ 0 = omega arith in sym (ap (after_lines (drop from t)) z) ∙ g.same
-
--- at place i of the line that begins at a place, what is left of it ends where it does
-pub record Along (t : List ℕ) (from i : ℕ) : Type 0 where
-  pub low : i ≤ length t
-  pub same : i + line_length (drop i t) ≡ from + line_length (drop from t)
-
-pub first : (t : List ℕ) (from : ℕ) → from ≤ length t → Along t from from
-first t from h = record { low = h; same = refl }
-
-module _ {t : List ℕ} {from i : ℕ} (a : Along t from i) where
-  pub further : i < length t → (get_or t i 0 ≡ 0x0a → ⊥) → Along t from (i + 1)
-  further h z =
-      let s : line_length (drop i t) ≡ line_length (drop (i + 1) t) + 1 = rw (step t i h, ne_eqb (get_or t i 0) 0x0a z) in
-      record { low = omega arith; same = omega (arith, a.same) }
-
-  pub at_end : i < length t → get_or t i 0 ≡ 0x0a → i ≡ from + line_length (drop from t)
-  at_end h z =
-      let s : line_length (drop i t) ≡ 0 = rw (step t i h, eq-eqb (get_or t i 0) 0x0a z) in
-      omega (arith, a.same)
-
-  pub at_last : length t ≤ i → i ≡ from + line_length (drop from t)
-  at_last h =
-      let s : line_length (drop i t) ≡ 0 = rw (done t i h) in
-      omega (arith, a.same)
-
--- the line from its start to its end
-pub the_line : (t : List ℕ) (n from end : ℕ) → drop from t ≡ after_lines t n → end ≡ from + line_length (drop from t)
-    → take (end - from) (drop from t) ≡ line_at t n
-unfolding line_at
-the_line t n from end e f =
-    let l : end - from ≡ line_length (drop from t) = omega arith in
-    ap (λ (k : ℕ). take k (drop from t)) l ∙ ap (λ (s : List ℕ). take (line_length s) s) e
+  pub arrived : n ≤ k → {l : List ℕ} → l ≡ take (line_length rest) rest → l ≡ line_at t n
+  unfolding line_at
+  arrived h {l} e =
+      let z : n - k ≡ 0 = omega arith in
+      let s : rest ≡ after_lines t n = sym (ap (after_lines rest) z) ∙ g.same in
+      e ∙ ap (λ (x : List ℕ). take (line_length x) x) s
 
 -- a table of words, each with a line end after it
 abbrev pub joined : List (List ℕ) → List ℕ

@@ -2,63 +2,57 @@
 // They stand in tables, a word to a line.
 #![tactic(auto)]
 
-ghost use Rattle.std.specs.Prelude.{◌≡◌, ◌+◌, ◌≤◌, length, get_or, drop, []};
+ghost use Rattle.std.specs.Prelude.{◌≡◌, ◌==◌, get_or, position, take, []};
 ghost use Rattle.text.specs.Text.{with_bytes_at, after_bytes};
 ghost use Rattle.findings.specs.Answers.{field_words, kind_words};
-ghost use Rattle.words.specs.Lines.{line_length, after_line, after_lines, line_at};
+ghost use Rattle.words.specs.Lines.{line_length, after_line, line_at};
 ghost use Rattle.words.specs.Meanings.{meaning};
 
-// Where the line after the one that begins at a place begins; the table's end where there is none.
-fn line_after(table: &[u8], from: usize) -> usize
-    requires { from ≤ length table.now }
-    ensures { (result ≤ length table.now) × (drop result table.now ≡ after_line (drop from table.now)) }
+// Where the first line of a table ends: the place of its 0Ah, where there is one.
+fn line_end(table: &[u8]) -> Option<usize>
+    ensures { result ≡ position (λ b. b == 10) table.now }
 {
-    let mut i = from;
-    while i < table.len() {
-        if table[i] == b'\n' {
-            return i + 1;
-        }
-        i += 1;
-    }
-    i
+    table.iter().position(|b| *b == b'\n')
 }
 
-// Where the n-th line of a table begins, from 0; the table's end where it has no such line.
-fn line_start(table: &[u8], n: usize) -> usize
-    ensures { (result ≤ length table.now) × (drop result table.now ≡ after_lines table.now n) }
+// The first line of a table, without its end.
+fn first_line(table: &[u8]) -> &[u8]
+    ensures { result.now ≡ take (line_length table.now) table.now }
 {
-    let mut from = 0;
-    let mut k = 0;
-    while k < n {
-        from = line_after(table, from);
-        k += 1;
+    match line_end(table) {
+        Some(i) => &table[..i],
+        None => table,
     }
-    from
 }
 
-// Where the line that begins at a place ends: the place of its 0Ah, or the table's end.
-fn line_end(table: &[u8], from: usize) -> usize
-    requires { from ≤ length table.now }
-    ensures { (result ≡ from + line_length (drop from table.now)) × (result ≤ length table.now) }
+// What follows the first line of a table.
+fn after_line(table: &[u8]) -> &[u8]
+    ensures { result.now ≡ after_line table.now }
 {
-    let mut i = from;
-    while i < table.len() {
-        if table[i] == b'\n' {
-            return i;
-        }
-        i += 1;
+    match line_end(table) {
+        Some(i) => &table[i + 1..],
+        None => &[],
     }
-    i
 }
 
+// The n-th line of a table, from 0, without its end; none where it has no such line.
+fn line_at(table: &[u8], n: usize) -> &[u8]
+    ensures { result.now ≡ line_at table.now n }
+{
+    let mut rest = table;
+    for _ in 0..n {
+        rest = after_line(rest);
+    }
+    first_line(rest)
+}
+
+// Kept: the place, as `text::put_at` gives it.
 // A line of a table at a place of what is lent, and the place after it; where it doesn't fit, the place itself and nothing written.
 fn put_line(out: &mut [u8], at: usize, table: &[u8], n: usize) -> usize
     ensures place { result ≡ after_bytes out.old at (line_at table.now n) }
     ensures bytes { out.new ≡ with_bytes_at out.old at (line_at table.now n) }
 {
-    let from = line_start(table, n);
-    let end = line_end(table, from);
-    text::put_at(out, at, &table[from..end])
+    text::put_at(out, at, line_at(table, n))
 }
 
 // The name of a field by its number, at a place of what is lent, and the place after it; none for a number that no field has.

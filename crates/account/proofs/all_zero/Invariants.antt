@@ -1,13 +1,9 @@
--- The invariant and the measure of the loop of `account::all_zero`.
+-- The invariant of the loop of `account::all_zero`.
 -- Assumes nothing.
-use Prim.Native.Nat.{◌-◌}
-use lib.ListN.{length}
-use Rattle.base.proofs.Every.{Passed}
+use Rattle.std.proofs.Common.{◌≡◌, take}
+use Rattle.base.specs.Bytes.{every}
 use Rattle.account.specs.Account.{zero}
 use Rattle.account.proofs.all_zero.Given as goal
 
-abbrev pub invariant-loop-i : goal.invariant-loop-i
-invariant-loop-i l = Passed zero l.s l.ok l.i
-
-abbrev pub decreases-loop-i : goal.decreases-loop-i
-decreases-loop-i l = length l.s - l.i
+abbrev pub invariant-loop-b : goal.invariant-loop-b
+invariant-loop-b l = l.ok ≡ every zero (take l.b-index l.s)

@@ -1,20 +1,17 @@
--- `answers::answer_to` meets its contract: the items of the message are those of what was lent.
+-- `answers::answer_to` meets its contract: the items' bytes are the message's items.
 -- Assumes nothing.
-use mathlib.Core.Path.{sym, ap, ◌∙◌}
+use mathlib.Core.Path.{ap, ◌∙◌}
+use mathlib.Core.List.{List}
 use Prim.Native.Nat.{ℕ}
-use lib.ListN.{drop}
-use Rattle.base.specs.Groups.{groups, place}
+use Rattle.std.specs.Prelude.{position}
+use Rattle.answers.specs.Fedjel.{items_in}
 use Rattle.answers.specs.Answers.{rightly}
 use Rattle.answers.proofs.Form.{items}
 use Rattle.answers.proofs.answer_to.Goals as goal
 
-pub returns-then-n-eq0 : goal.returns-then-n-eq0
-returns-then-n-eq0 c =
-    let a = c.args in
-    let n = sym c.if-n-eq0.true ∙ c.count-n.ensures in
-    ap (λ (i : ℕ). place (rightly a.request.now) (groups 72 70 i (drop 34 a.message.now))) n
-
 pub returns : goal.returns
 returns c =
     let a = c.args in
-    c.first_right.ensures ∙ ap (place (rightly a.request.now)) (items a.message.now c.count-n.ensures)
+    c.first_right.ensures
+    ∙ ap (λ (b : List ℕ). position (rightly a.request.now) (items_in b)) c.items.ensures
+    ∙ ap (position (rightly a.request.now)) (items a.message.now)

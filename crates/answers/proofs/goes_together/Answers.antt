@@ -7,6 +7,7 @@ use Prim.Native.Nat.{ℕ}
 use native.Mathlib.Omega.{arith}
 use lib.Dec.{eqb}
 use lib.ListN.{length, get_or}
+use borrow.Author.Rules.{rules}
 use Rattle.answers.specs.Answers.{together}
 use Rattle.answers.proofs.Form.{type_bytes}
 use Rattle.answers.proofs.goes_together.Goals as goal
@@ -27,4 +28,4 @@ by_bytes it h =
     simp (type_bytes it (omega (arith, h))) (sorted (eqb x 48) (eqb y 50) (eqb y 51) (eqb z 49) (eqb z 48 || (eqb z 57 || eqb z 53)) ∙ simp or-false)
 
 pub returns : goal.returns
-returns c = by_bytes c.args.item.now c.requires
+returns c = by_bytes c.args.item.now (search rules)

@@ -1,41 +1,46 @@
 -- `cdv::any` meets its contract: the sum keeps its last digit as it is brought down, and with the digits that are left it decides.
 -- Assumes nothing.
-use mathlib.Core.Path.{◌≡◌, refl, ap, ◌∙◌}
-use Prim.Native.Nat.{ℕ, ◌%◌}
+use mathlib.Core.Path.{◌≡◌, ap, ◌∙◌}
+use mathlib.Core.List.{List}
+use Prim.Native.Nat.{ℕ, ◌+◌, ◌%◌, ◌≤◌, ◌<◌}
 use native.Mathlib.Omega.{arith}
 use lib.Dec.{eqb}
+use lib.ListN.{length, drop}
 use Rattle.cdv.specs.Check.{weighed, cdv}
 use Rattle.cdv.proofs.Weighing.{over, by_sum}
+use Rattle.cdv.proofs.any.Invariants.{Eights}
+use Rattle.cdv.proofs.any.Goals.{else-loop-i-test, then-loop-i-test+else-i-end-i-gt8}
 use Rattle.cdv.proofs.any.Goals as goal
 
-pub loop-i-init : goal.loop-i-init
-loop-i-init c = record { whole = omega arith; cycle = refl; small = omega arith }
+-- the sum of all digits, brought down
+record Summed (s : List ℕ) (sum : ℕ) : Type 0 where
+  last : sum % 10 ≡ weighed cdv 0 s % 10
+  below : sum < 720
 
-pub less-requires : goal.less-requires
-less-requires c = (refl, omega (arith, c.loop-i.invariant.small))
+module _ {s : List ℕ} {sum i : ℕ} (w : Eights s sum i) where
+  -- nothing was left, or the last eight digits at most
+  none : length s ≤ i → Summed s sum
+  none h = record { last = omega (arith, w.whole, over cdv s i i h); below = w.small }
 
-pub eight-requires : goal.eight-requires
-eight-requires c = (c.requires, c.loop-i.invariant.cycle, omega (arith, c.loop-i-test.true))
-
-pub overflow_add-sum : goal.overflow_add-sum
-overflow_add-sum c = omega (arith, c.eight.ensures.1, c.less.ensures.1)
-
-pub loop-i-preserved : goal.loop-i-preserved
-loop-i-preserved c =
-    let lowered = c.less.ensures in
-    let inv = c.loop-i.invariant in
-    record {
-      whole = omega (arith, inv.whole, lowered.0, c.eight.ensures.0);
-      cycle = omega (arith, inv.cycle);
-      small = omega (arith, lowered.1, c.eight.ensures.1);
-    }
+  one_more : {a b : ℕ} → (a % 10 ≡ sum % 10) × (a < 360)
+      → (weighed cdv i (drop i s) ≡ b + weighed cdv (i + 8) (drop (i + 8) s)) × (b ≤ 360) → length s ≤ i + 8 → Summed s (a + b)
+  one_more p q h = record { last = omega (arith, w.whole, p.0, q.0, over cdv s (i + 8) (i + 8) h); below = omega (arith, p.1, q.1) }
 
 pub is_tens-requires : goal.is_tens-requires
-is_tens-requires c = omega (arith, c.loop-i.invariant.small)
+is_tens-requires c =
+    let e : Summed c.args.s.now c.loop-i-test.sum =
+    elim c.loop-i-test.branch [
+      | else-loop-i-test w ↦ rw w.sum-is (none c.loop-i.invariant w.loop-i-test.false)
+      | then-loop-i-test+else-i-end-i-gt8 w ↦ rw w.sum-is (one_more c.loop-i.invariant w.less.ensures w.eight.ensures (omega arith))
+    ] in
+    omega (arith, e.below)
 
 pub returns : goal.returns
 returns c =
     let s = c.args.s.now in
-    let i = c.loop-i.i in
-    let e : c.loop-i.sum % 10 ≡ weighed cdv 0 s % 10 = omega (arith, c.loop-i.invariant.whole, over cdv s i i c.loop-i-test.false) in
-    c.is_tens.ensures ∙ ap (λ (n : ℕ). eqb n 0) e ∙ by_sum s c.requires
+    let e : Summed s c.loop-i-test.sum =
+    elim c.loop-i-test.branch [
+      | else-loop-i-test w ↦ rw w.sum-is (none c.loop-i.invariant w.loop-i-test.false)
+      | then-loop-i-test+else-i-end-i-gt8 w ↦ rw w.sum-is (one_more c.loop-i.invariant w.less.ensures w.eight.ensures (omega arith))
+    ] in
+    c.is_tens.ensures ∙ ap (λ (n : ℕ). eqb n 0) e.last ∙ by_sum s c.requires

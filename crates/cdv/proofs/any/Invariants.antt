@@ -1,9 +1,9 @@
--- The invariant and the measure of the loop of `cdv::any`.
+-- The invariant of the loop of `cdv::any`.
 -- Assumes nothing.
 use mathlib.Core.Path.{◌≡◌}
 use mathlib.Core.List.{List}
-use Prim.Native.Nat.{ℕ, ◌+◌, ◌-◌, ◌%◌, ◌<◌}
-use lib.ListN.{length, drop}
+use Prim.Native.Nat.{ℕ, ◌+◌, ◌%◌, ◌<◌}
+use lib.ListN.{drop}
 use Rattle.cdv.specs.Check.{weighed, cdv}
 use Rattle.cdv.proofs.any.Given as goal
 
@@ -14,6 +14,3 @@ pub record Eights (s : List ℕ) (sum i : ℕ) : Type 0 where
 
 abbrev pub invariant-loop-i : goal.invariant-loop-i
 invariant-loop-i l = Eights l.s l.sum l.i
-
-abbrev pub decreases-loop-i : goal.decreases-loop-i
-decreases-loop-i l = length l.s - l.i

@@ -1,8 +1,8 @@
--- The invariant and the measure of the loop of `cdv::is_ean13`.
+-- The invariant of the loop of `cdv::is_ean13`.
 -- Assumes nothing.
 use mathlib.Core.Path.{◌≡◌}
 use mathlib.Core.List.{List}
-use Prim.Native.Nat.{ℕ, ◌+◌, ◌-◌, ◌*◌, ◌%◌, ◌≤◌}
+use Prim.Native.Nat.{ℕ, ◌+◌, ◌*◌, ◌%◌, ◌≤◌}
 use lib.ListN.{drop}
 use Rattle.cdv.specs.Check.{weighed, gs1}
 use Rattle.cdv.proofs.is_ean13.Given as goal
@@ -15,6 +15,3 @@ pub record Twos (s : List ℕ) (sum i : ℕ) : Type 0 where
 
 abbrev pub invariant-loop-i : goal.invariant-loop-i
 invariant-loop-i l = Twos l.s l.sum l.i
-
-abbrev pub decreases-loop-i : goal.decreases-loop-i
-decreases-loop-i l = 14 - l.i

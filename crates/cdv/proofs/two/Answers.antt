@@ -18,12 +18,6 @@ twos s i z =
     next ws s (i + 1) (i + 2) 1 (omega arith) (omega arith) in
     omega arith
 
-pub overflow_sub-a : goal.overflow_sub-a
-overflow_sub-a c = omega (arith, (digit_at c.args.s.now c.args.i c.requires.0).from, c.at-a.ensures.0)
-
-pub overflow_sub-b : goal.overflow_sub-b
-overflow_sub-b c = omega (arith, (digit_at c.args.s.now (c.args.i + 1) c.requires.0).from, c.at-b.ensures.0)
-
 pub returns : goal.returns
 returns c =
     let a = c.args in

@@ -1,16 +1,7 @@
--- The invariant and the measure of the loop of `digits::fits`.
+-- The invariant of the loop of `digits::fits`: what is left has no more digits than are left exactly when the whole has no more than w.
 -- Assumes nothing.
-use mathlib.Core.Path.{◌≡◌}
-use Prim.Native.Nat.{ℕ, ◌-◌, ◌^◌, ◌≤◌}
-use lib.Dec.{ltb}
+use Rattle.std.proofs.Common.{◌≡◌, ◌-◌, ◌^◌, ltb}
 use Rattle.digits.proofs.fits.Given as goal
 
-pub record Left (n w left i : ℕ) : Type 0 where
-  pub low : i ≤ w
-  pub decides : ltb left (10 ^ (w - i)) ≡ ltb n (10 ^ w)
-
-abbrev pub invariant-loop-i : goal.invariant-loop-i
-invariant-loop-i l = Left l.n l.w l.left l.i
-
-abbrev pub decreases-loop-i : goal.decreases-loop-i
-decreases-loop-i l = l.w - l.i
+abbrev pub invariant-loop : goal.invariant-loop
+invariant-loop l = ltb l.left (10 ^ (l.w - l.counter)) ≡ ltb l.n (10 ^ l.w)

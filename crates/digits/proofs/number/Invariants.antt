@@ -1,12 +1,7 @@
--- The invariant and the measure of the loop of `digits::number`.
+-- The invariant of the loop of `digits::number`.
 -- Assumes nothing.
-use Prim.Native.Nat.{◌-◌}
-use lib.ListN.{length}
 use Rattle.digits.proofs.Value.{Read}
 use Rattle.digits.proofs.number.Given as goal
 
-abbrev pub invariant-loop-i : goal.invariant-loop-i
-invariant-loop-i l = Read l.s l.n l.i
-
-abbrev pub decreases-loop-i : goal.decreases-loop-i
-decreases-loop-i l = length l.s - l.i
+abbrev pub invariant-loop-b : goal.invariant-loop-b
+invariant-loop-b l = Read l.s l.n l.b-index

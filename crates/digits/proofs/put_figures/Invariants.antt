@@ -1,4 +1,4 @@
--- The invariant and the measure of the loop of `digits::put_figures`.
+-- The invariant of the loop of `digits::put_figures`.
 -- Assumes nothing.
 use mathlib.Core.Path.{◌≡◌}
 use mathlib.Core.List.{List, ◌++◌}
@@ -9,12 +9,8 @@ use Rattle.digits.proofs.put_figures.Given as goal
 
 pub record Put (out₀ : List ℕ) (w n : ℕ) (out : List ℕ) (left i : ℕ) : Type 0 where
   pub long : length out ≡ length out₀
-  pub low : i ≤ w
   pub room : w ≤ length out₀
   pub stands : figures i left ++ drop i out ≡ figures w n ++ drop w out₀
 
 abbrev pub invariant-loop-i : goal.invariant-loop-i
 invariant-loop-i l = Put l.initial.out l.w l.n l.out l.left l.i
-
-abbrev pub decreases-loop-i : goal.decreases-loop-i
-decreases-loop-i l = l.i

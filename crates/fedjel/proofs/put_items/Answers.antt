@@ -1,4 +1,4 @@
--- `fedjel::put_items` is safe: each code is an item's. The items that are left fall.
+-- `fedjel::put_items` is safe: each code is an item's.
 -- Assumes nothing.
 use native.Mathlib.Omega.{arith}
 use Rattle.fedjel.proofs.put_items.Goals as goal

@@ -6,6 +6,7 @@ use mathlib.Core.List.{List, [], ◌∷◌}
 use Prim.Native.Nat.{ℕ}
 use native.Mathlib.Omega.{arith}
 use lib.Dec.{eqb}
+use borrow.Author.Rules.{rules}
 use lib.ListN.{length, get_or, take, drop, length-drop}
 use lib.Seq.{length-take-le}
 use Rattle.base.specs.Bytes.{field}
@@ -13,9 +14,7 @@ use Rattle.digits.specs.Digits.{digit, is_digits}
 use Rattle.lists.specs.Banks.{found_in}
 use Rattle.findings.specs.declared.Kind.{Kind}
 use Rattle.findings.specs.declared.Kind.TheVariants.{Mark, NotDigits, NotListed, BlankOrZero}
-use Rattle.findings.specs.declared.Finding.{Finding}
-use Rattle.findings.specs.declared.Finding.TheVariants.{Right}
-use Rattle.findings.specs.Findings.{unless}
+use Rattle.findings.specs.Findings.{Finding, Right, unless}
 use Rattle.fields.specs.Fields.{digits_of, duplicate_found}
 use Rattle.fields.proofs.Numbers.{right_length}
 use Rattle.fields.proofs.Byte.{one}
@@ -70,21 +69,16 @@ module _ (h : HeadFindings) where
         name = p11 i;
       }
 
-pub slice_bounds-is_purpose-end : goal.slice_bounds-is_purpose-end
-slice_bounds-is_purpose-end c = omega (arith, c.requires)
-
-pub slice_bounds-is_blank-end : goal.slice_bounds-is_blank-end
-slice_bounds-is_blank-end c = omega (arith, c.requires)
-
 pub returns : goal.returns
 unfolding atutal_fields
 returns c =
     let r = c.args.r.now in
-    let m = c.found.ensures ∙ ap (λ (t : Bool). tested t Mark) c.is_word.ensures in
+    let h : length r ≡ 174 = search rules in
+    let m = c.found.ensures ∙ ap (λ (t : Bool). tested t Mark) c.is_same.ensures in
     let x = get_or r 8 0 in
-    let u = byte_mark (take 1 (drop 8 r)) x (one r 8 (omega (arith, c.requires))) in
+    let u = byte_mark (take 1 (drop 8 r)) x (one r 8 (omega (arith, h))) in
     let d = c.found-2.ensures ∙ ap (λ (t : Bool). tested (t || eqb x 0x40) Mark) c.is_digit.ensures ∙ u in
-    let q = c.found-3.ensures ∙ ap (λ (t : Bool). tested t NotDigits) (c.is_digits.ensures ∙ four r c.requires) in
+    let q = c.found-3.ensures ∙ ap (λ (t : Bool). tested t NotDigits) (c.is_digits.ensures ∙ four r h) in
     let p = c.found-4.ensures ∙ ap (λ (t : Bool). tested t NotListed) c.is_purpose.ensures in
     let n = c.found-5.ensures ∙ ap (λ (t : Bool). tested (not t) BlankOrZero) c.is_blank.ensures in
     made (atutal_fields c.args.e (found_in c.args.banks.now) c.args.known.now r)

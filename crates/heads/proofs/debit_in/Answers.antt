@@ -4,6 +4,7 @@ use mathlib.Core.Path.{◌≡◌, ap, ◌∙◌}
 use mathlib.Core.List.{List}
 use Prim.Native.Nat.{ℕ, ◌<◌}
 use native.Mathlib.Omega.{arith}
+use borrow.Author.Rules.{rules}
 use lib.ListN.{length, take, drop, length-drop}
 use lib.Seq.{length-take-le}
 use Rattle.base.specs.Bytes.{field}
@@ -18,7 +19,7 @@ small r h =
     rw e at (number_lt (take 8 (drop 22 r)))
 
 pub overflow_cast-c : goal.overflow_cast-c
-overflow_cast-c c = omega (arith, small c.args.r.now c.requires, c.number-c.ensures)
+overflow_cast-c c = omega (arith, small c.args.r.now (search rules), c.number-c.ensures)
 
 pub returns : goal.returns
 returns c = c.debit_found.ensures ∙ ap (λ (n : ℕ). debit_found c.args.e n (field 59 66 c.args.r.now)) c.number-c.ensures

@@ -6,14 +6,13 @@ use mathlib.Core.List.{List}
 use Prim.Native.Nat.{ℕ}
 use native.Mathlib.Omega.{arith}
 use lib.ListN.{length}
+use borrow.Author.Rules.{rules}
 use borrow.Author.Tests.{le-leb}
 use Rattle.base.specs.Bytes.{field}
 use Rattle.lists.specs.Known.{is_known}
 use Rattle.frame.specs.Records.{id_of}
-use Rattle.findings.specs.declared.Finding.{Finding}
-use Rattle.findings.specs.declared.Finding.TheVariants.{Right}
 use Rattle.findings.specs.declared.Kind.TheVariants.{Known}
-use Rattle.findings.specs.Findings.{unless}
+use Rattle.findings.specs.Findings.{Finding, Right, unless}
 use Rattle.fields.specs.Fields.{identifier_found}
 use Rattle.heads.proofs.identifier_in.Goals as goal
 
@@ -27,4 +26,4 @@ module _ (known r : List ℕ) (h : length r ≡ 174) where
   looked_up i e f g = g ∙ ap (λ (t : Bool). unless (not t) Known Right) (e ∙ ap (is_known known) (i ∙ whole_id r h))
 
 pub returns : goal.returns
-returns c = looked_up c.args.known.now c.args.r.now c.requires c.identifier.ensures c.is_known.ensures c.found.result c.found.ensures
+returns c = looked_up c.args.known.now c.args.r.now (search rules) c.identifier.ensures c.is_known.ensures c.found.result c.found.ensures

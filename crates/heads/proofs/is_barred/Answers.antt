@@ -7,7 +7,6 @@ use Prim.Native.Nat.{ℕ, ◌<◌, ◌≤◌}
 use native.Mathlib.Omega.{arith}
 use lib.ListN.{length, take, drop, length-drop, length-take}
 use lib.Seq.{length-take-le}
-use borrow.Author.Tests.{not-true, not-false}
 use Rattle.base.specs.Bytes.{field}
 use Rattle.digits.specs.Digits.{is_digits, number_of}
 use Rattle.digits.proofs.Value.{number_lt}
@@ -39,7 +38,7 @@ returns-then-r-lt42 c = short (found_in c.args.barred.now) c.args.r.now c.if-r-l
 
 pub returns-then-not-is_digits : goal.returns-then-not-is_digits
 returns-then-not-is_digits c =
-    no_digits (found_in c.args.barred.now) c.args.r.now c.if-r-lt42.false (sym c.is_digits.ensures ∙ not-true _ c.if-not-is_digits.true-raw)
+    no_digits (found_in c.args.barred.now) c.args.r.now c.if-r-lt42.false (sym c.is_digits.ensures ∙ c.if-not-is_digits.true)
 
 pub overflow_cast-number : goal.overflow_cast-number
 overflow_cast-number c =
@@ -50,4 +49,4 @@ pub returns : goal.returns
 returns c =
     let is_barred = found_in c.args.barred.now in
     c.is_listed.ensures.halves ∙ ap is_barred c.number.ensures
-    ∙ asked is_barred c.args.r.now c.if-r-lt42.false (sym c.is_digits.ensures ∙ not-false _ c.if-not-is_digits.false-raw)
+    ∙ asked is_barred c.args.r.now c.if-r-lt42.false (sym c.is_digits.ensures ∙ c.if-not-is_digits.false)

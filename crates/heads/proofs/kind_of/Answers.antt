@@ -22,8 +22,8 @@ module _ (r : List ℕ) where
 pub returns-then-r-lt8 : goal.returns-then-r-lt8
 returns-then-r-lt8 c = short c.args.r.now c.if-r-lt8.true
 
-pub returns-then-is_word : goal.returns-then-is_word
-returns-then-is_word c = told c.args.r.now true (sym c.if-is_word.true ∙ c.is_word.ensures)
+pub returns-then-is_same : goal.returns-then-is_same
+returns-then-is_same c = told c.args.r.now true (sym c.if-is_same.true ∙ c.is_same.ensures)
 
 pub returns : goal.returns
-returns c = told c.args.r.now false (sym c.if-is_word.false ∙ c.is_word.ensures)
+returns c = told c.args.r.now false (sym c.if-is_same.false ∙ c.is_same.ensures)

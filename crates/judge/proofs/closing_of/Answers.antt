@@ -9,8 +9,8 @@ returns-then-t-ne2 c = close_broken c.args.t c.blank.result c.requires c.if-t-ne
 pub returns-then-t : goal.returns-then-t
 returns-then-t c = close_letter c.args.t c.blank-then-t.result c.if-t-ne2.false c.if-t.true c.blank-then-t.ensures
 
-pub returns-then-code-ne0 : goal.returns-then-code-ne0
-returns-then-code-ne0 c = close_fault c.args.t c.blank-then-code-ne0.result c.if-t-ne2.false c.if-t.false c.if-code-ne0.true c.blank-then-code-ne0.ensures
+pub returns-then-t-ne0 : goal.returns-then-t-ne0
+returns-then-t-ne0 c = close_fault c.args.t c.blank-then-t-ne0.result c.if-t-ne2.false c.if-t.false c.if-t-ne0.true c.blank-then-t-ne0.ensures
 
 pub returns : goal.returns
-returns c = close_right c.args.t c.if-t-ne2.false c.if-t.false c.if-code-ne0.false
+returns c = close_right c.args.t c.if-t-ne2.false c.if-t.false c.if-t-ne0.false

@@ -7,7 +7,6 @@ use native.Mathlib.Nat.{zero-add}
 use native.Mathlib.Omega.{arith}
 use lib.ListN.{length, take}
 use Rattle.base.specs.Bytes.{over}
-use Rattle.base.proofs.Over.{length_over}
 use Rattle.text.specs.Text.{with_bytes}
 use Rattle.text.proofs.At.{fits}
 use Rattle.frame.specs.declared.Tally.{Tally}
@@ -24,9 +23,6 @@ module _ (c : Tally) (h x : List ℕ) (l : length h ≡ longest) (r : Partial c 
   put : h₁ ≡ over h 0 x
   put = q ∙ fits h x (omega (arith, room))
 
-  asks : (length h₁ ≡ longest) × (length x ≤ longest)
-  asks = (ap length put ∙ length_over h 0 x (omega (arith, room)) ∙ l, room)
-
   front : take (length x) h₁ ≡ x
   front = ap (take (length x)) put ∙ rw zero-add at (over_front h 0 x (omega arith))
 
@@ -34,11 +30,11 @@ module _ (c : Tally) (h x : List ℕ) (l : length h ≡ longest) (r : Partial c 
   held h₂ z = left_held c h₂ x p (r.early p) (z ∙ ap pad front)
 
 pub cleared-requires : goal.cleared-requires
-cleared-requires c = asks c.args.tally c.args.held.now c.args.x.now c.requires.held_len c.requires.partial c.if-tally-le1.true c.put.new.out c.put.ensures.bytes
+cleared-requires c = room c.args.tally c.args.held.now c.args.x.now c.told-held c.requires c.if-tally-le1.true c.put.new.out c.put.ensures.bytes
 
 pub returns-then-tally-le1 : goal.returns-then-tally-le1
 returns-then-tally-le1 c =
-    held c.args.tally c.args.held.now c.args.x.now c.requires.held_len c.requires.partial c.if-tally-le1.true c.put.new.out c.put.ensures.bytes
+    held c.args.tally c.args.held.now c.args.x.now c.told-held c.requires c.if-tally-le1.true c.put.new.out c.put.ensures.bytes
     c.cleared.new.held c.cleared.ensures
 
 pub returns-then-x-gt0 : goal.returns-then-x-gt0
@@ -51,4 +47,4 @@ returns-else-x-gt0 c = left_none c.args.tally c.cleared-2.new.held c.cleared-2.e
 
 pub returns-else-tally-eq2 : goal.returns-else-tally-eq2
 returns-else-tally-eq2 c =
-    left_over c.args.tally c.cleared-2.new.held c.cleared-2.ensures c.args.x.now c.if-tally-le1.false c.if-tally-eq2.false c.requires.partial.phase
+    left_over c.args.tally c.cleared-2.new.held c.cleared-2.ensures c.args.x.now c.if-tally-le1.false c.if-tally-eq2.false c.requires.phase

@@ -1,24 +1,24 @@
 -- `judge::fed` meets its contract: the record begun, and then what follows it.
 -- Assumes nothing.
-use mathlib.Core.Path.{◌≡◌, refl, sym, ◌∙◌}
+use mathlib.Core.Path.{◌≡◌, refl, sym}
 use Prim.Native.Nat.{ℕ, ◌-◌}
 use native.Mathlib.Omega.{arith}
 use lib.ListN.{get_or, set}
 use lib.Seq.{length-take-le}
-use Rattle.lent.specs.Lent.{Lent, lent}
+use Rattle.lent.specs.Lent.{Lent, lent_in}
 use Rattle.frame.specs.Verdict.{Rules}
 use Rattle.frame.specs.Sound.{Sound}
 use Rattle.kinds.specs.Codes.{rules}
 use Rattle.kinds.proofs.Instance.{sound}
 use Rattle.frame.specs.Machine.{size}
-use Rattle.judge.proofs.Turn.{Begun, Shown, empty_fed, begun_room, none_fed, set_long, lacks, put_most, put_long, put_count, kept_became, put_whole, put_ready}
+use Rattle.judge.proofs.Turn.{Begun, Shown, empty_fed, begun_room, none_fed, set_long, lacks, put_most, kept_became, put_whole, put_ready}
 use Rattle.judge.proofs.Turn.{all_put, short_put, long_put, long_became}
 use Rattle.judge.proofs.fed.Goals.{Start}
 use Rattle.judge.proofs.fed.Goals as goal
 
 module _ (c : Start) (i : c.args.fill ≡ 0 → ⊥) where
   begun : Begun c.args.tally c.args.fill c.args.held.now c.args.table.now
-  begun = record { fit = c.requires.fit; long = c.requires.held_len; some = omega (arith, i) }
+  begun = record { fit = c.requires; long = c.told-held; some = omega (arith, i) }
 
   shown : {w : ℕ} → w ≡ size c.args.tally.phase (set c.args.held.now c.args.fill (get_or c.args.piece.now 0 0))
       → Shown c.args.tally c.args.fill c.args.held.now c.args.table.now (get_or c.args.piece.now 0 0) w
@@ -26,7 +26,7 @@ module _ (c : Start) (i : c.args.fill ≡ 0 → ⊥) where
 
 -- what is lent, and its rules
 abbrev given : Start → Lent
-given c = lent c.args.day c.args.banks.now c.args.known.now c.args.barred.now
+given c = lent_in c.args.day c.args.lists.now
 
 abbrev R : Start → Rules
 R c = rules (given c)
@@ -40,7 +40,7 @@ returns-then-fill-eq0 c =
     c.onward.ensures
 
 pub cleared-requires : goal.cleared-requires
-cleared-requires c = (c.requires.held_len, omega (arith, begun_room (begun (goal.at.cleared-requires c).Start c.if-fill-eq0.false)))
+cleared-requires c = omega (arith, begun_room (begun (goal.at.cleared-requires c).Start c.if-fill-eq0.false))
 
 pub returns-then-piece-eq0 : goal.returns-then-piece-eq0
 returns-then-piece-eq0 c =
@@ -48,7 +48,7 @@ returns-then-piece-eq0 c =
     none_fed (begun s c.if-fill-eq0.false) (R s) c.args.piece.now c.cleared.new.held c.if-piece-eq0.true c.cleared.ensures
 
 pub bounds-held-fill : goal.bounds-held-fill
-bounds-held-fill c = omega (arith, c.requires.held_len, begun_room (begun (goal.at.bounds-held-fill c).Start c.if-fill-eq0.false))
+bounds-held-fill c = omega (arith, c.told-held, begun_room (begun (goal.at.bounds-held-fill c).Start c.if-fill-eq0.false))
 
 pub overflow_sub-n : goal.overflow_sub-n
 overflow_sub-n c = omega (arith, lacks (shown (goal.at.overflow_sub-n c).Start c.if-fill-eq0.false c.size_of.ensures))
@@ -67,14 +67,7 @@ pub cleared-requires-then-piece-n : goal.cleared-requires-then-piece-n
 cleared-requires-then-piece-n c =
     let s = (goal.at.cleared-requires-then-piece-n c).Start in
     let d = short_put (shown s c.if-fill-eq0.false c.size_of.ensures) c.args.piece.now refl c.if-piece-eq0.false c.if-piece-n.true c.put.ensures.bytes in
-    (put_long d, put_most d)
-
-pub shape_of-held-then-piece-n : goal.shape_of-held-then-piece-n
-shape_of-held-then-piece-n c =
-    let s = (goal.at.shape_of-held-then-piece-n c).Start in
-    c.held-then-piece-n-2-1.given
-    ∙ put_long (short_put (shown s c.if-fill-eq0.false c.size_of.ensures) c.args.piece.now refl c.if-piece-eq0.false c.if-piece-n.true c.put.ensures.bytes)
-    ∙ sym c.requires.held_len
+    put_most d
 
 pub returns-then-piece-n : goal.returns-then-piece-n
 returns-then-piece-n c =
@@ -95,22 +88,16 @@ slice_bounds-put-start-2 c =
 pub slice_bounds-put-end-3 : goal.slice_bounds-put-end-3
 slice_bounds-put-end-3 c = sym (length-take-le (c.size_of.result - c.args.fill) c.args.piece.now c.if-piece-n.false)
 
-pub slice_bounds-record_read-end : goal.slice_bounds-record_read-end
-slice_bounds-record_read-end c =
-    let s = (goal.at.slice_bounds-record_read-end c).Start in
-    let d = long_put (shown s c.if-fill-eq0.false c.size_of.ensures) c.args.piece.now refl c.if-piece-n.false c.put-2.ensures.bytes in
-    omega (arith, put_long d, put_most d)
-
-pub slice_bounds-record_read-end-2 : goal.slice_bounds-record_read-end-2
-slice_bounds-record_read-end-2 c =
-    let s = (goal.at.slice_bounds-record_read-end-2 c).Start in
-    put_count (long_put (shown s c.if-fill-eq0.false c.size_of.ensures) c.args.piece.now refl c.if-piece-n.false c.put-2.ensures.bytes)
+pub shared_ref_as_front-record_read : goal.shared_ref_as_front-record_read
+shared_ref_as_front-record_read c =
+    let s = (goal.at.shared_ref_as_front-record_read c).Start in
+    put_most (long_put (shown s c.if-fill-eq0.false c.size_of.ensures) c.args.piece.now refl c.if-piece-n.false c.put-2.ensures.bytes)
 
 pub record_read-t-requires : goal.record_read-t-requires
 record_read-t-requires c =
     let s = (goal.at.record_read-t-requires c).Start in
     record {
-      ready = c.requires.fit.ready;
+      ready = c.requires.ready;
       x_len = put_whole (long_put (shown s c.if-fill-eq0.false c.size_of.ensures) c.args.piece.now refl c.if-piece-n.false c.put-2.ensures.bytes) (R s) (ok s)
           (all_put (shown s c.if-fill-eq0.false c.size_of.ensures));
     }
@@ -121,15 +108,8 @@ onward-requires-2 c =
     let d = long_put (shown s c.if-fill-eq0.false c.size_of.ensures) c.args.piece.now refl c.if-piece-n.false c.put-2.ensures.bytes in
     record {
       ready = put_ready d (R s) (ok s) (all_put (shown s c.if-fill-eq0.false c.size_of.ensures)) c.record_read-t.ensures;
-      held_len = (put_long d, c.if-piece-n.false);
+      from_in_bounds = c.if-piece-n.false;
     }
-
-pub shape_of-held : goal.shape_of-held
-shape_of-held c =
-    let s = (goal.at.shape_of-held c).Start in
-    c.held-3-1.given
-    ∙ put_long (long_put (shown s c.if-fill-eq0.false c.size_of.ensures) c.args.piece.now refl c.if-piece-n.false c.put-2.ensures.bytes)
-    ∙ sym c.requires.held_len
 
 pub returns : goal.returns
 returns c =

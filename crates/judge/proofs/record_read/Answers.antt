@@ -3,7 +3,7 @@
 use mathlib.Core.Path.{sym, ◌∙◌}
 use native.Mathlib.Omega.{arith}
 use Rattle.frame.specs.Records.{lengths}
-use Rattle.lent.specs.Lent.{Lent, lent}
+use Rattle.lent.specs.Lent.{Lent, lent_in}
 use Rattle.frame.proofs.Uncut.{ended_long}
 use Rattle.judge.proofs.Tallies.{judge_head, judge_headless, judge_foot, judge_footless, judge_item, judge_itemless}
 use Rattle.judge.proofs.record_read.Goals.{Start}
@@ -11,7 +11,7 @@ use Rattle.judge.proofs.record_read.Goals as goal
 
 -- what is lent
 abbrev given : Start → Lent
-given c = lent c.args.day c.args.banks.now c.args.known.now c.args.barred.now
+given c = lent_in c.args.day c.args.lists.now
 
 pub slice_bounds-head_read-end : goal.slice_bounds-head_read-end
 slice_bounds-head_read-end c = omega (arith, ended_long lengths.head c.args.x.now (sym c.has_ending.ensures ∙ c.if-has_ending.true))

@@ -5,11 +5,11 @@ use Rattle.base.proofs.Every.{start, on, ends}
 use Rattle.letters.specs.Letters.{own}
 use Rattle.letters.proofs.is_own.Goals as goal
 
-pub loop-i-init : goal.loop-i-init
-loop-i-init c = start own c.args.s.now
+pub loop-b-init : goal.loop-b-init
+loop-b-init c = start own c.args.s.now
 
-pub loop-i-preserved : goal.loop-i-preserved
-loop-i-preserved c = on c.loop-i.invariant c.loop-i-test.true _ refl
+pub loop-b-preserved : goal.loop-b-preserved
+loop-b-preserved c = on c.loop-b.invariant c.loop-b-test.true _ refl
 
 pub returns : goal.returns
-returns c = ends c.loop-i.invariant c.loop-i-test.false
+returns c = ends c.loop-b.invariant c.loop-b-test.false

@@ -1,15 +1,14 @@
 -- `letters::width` meets its contract.
 -- Assumes nothing.
-use Rattle.letters.proofs.Shown.{four_wide, one_wide, two_wide}
-use borrow.Author.Rules.{rules}
+use Rattle.std.proofs.Common.{arith}
 use Rattle.letters.proofs.Shown.{four_wide, one_wide, two_wide}
 use Rattle.letters.proofs.width.Goals as goal
 
-pub returns-then-is_marked : goal.returns-then-is_marked
-returns-then-is_marked c = (four_wide c.args.b c.is_marked.ensures c.if-is_marked.true, search rules)
+pub returns-in-None : goal.returns-in-None
+returns-in-None c = (four_wide c.args.b c.letter.ensures c.in-None.is, omega arith)
 
-pub returns-then-unicode-lt128 : goal.returns-then-unicode-lt128
-returns-then-unicode-lt128 c = (one_wide c.args.b c.is_marked.ensures c.if-is_marked.false c.unicode.ensures c.if-unicode-lt128.true, search rules)
+pub returns-then-n-lt128 : goal.returns-then-n-lt128
+returns-then-n-lt128 c = (one_wide c.args.b c.letter.ensures c.in-Some.is c.if-n-lt128.true, omega arith)
 
-pub returns : goal.returns
-returns c = (two_wide c.args.b c.is_marked.ensures c.if-is_marked.false c.unicode.ensures c.if-unicode-lt128.false, search rules)
+pub returns-else-n-lt128 : goal.returns-else-n-lt128
+returns-else-n-lt128 c = (two_wide c.args.b c.letter.ensures c.in-Some.is c.if-n-lt128.false, omega arith)

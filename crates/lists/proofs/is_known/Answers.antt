@@ -1,20 +1,16 @@
--- `lists::is_known` meets its contract: the identifiers that are left hold this one if any does.
+-- `lists::is_known` meets its contract: the chunks of the list are its whole identifiers.
 -- Assumes nothing.
-use Rattle.lists.proofs.Known.{start, ends, stops, on}
+use Rattle.std.proofs.Common.{rules}
+use borrow.Author.Tests.{tests}
+use lib.Dec.{lit<}
+use Rattle.std.proofs.lemmas.Iterator.Search.{any_from_yields_List}
+use Rattle.base.specs.Bytes.{same}
+use Rattle.base.proofs.Chunks.{from_chunks}
 use Rattle.lists.proofs.is_known.Goals as goal
 
-pub loop-k-init : goal.loop-k-init
-loop-k-init c = start _ _ _
-
-pub returns-then-is_id : goal.returns-then-is_id
-returns-then-is_id c =
-    let id = c.is_id in
-    stops c.loop-k.invariant c.loop-k-test.true id.result id.ensures c.if-is_id.true
-
-pub loop-k-preserved : goal.loop-k-preserved
-loop-k-preserved c =
-    let id = c.is_id in
-    on c.loop-k.invariant c.loop-k-test.true id.result id.ensures c.if-is_id.false
-
 pub returns : goal.returns
-returns c = ends c.loop-k.invariant c.loop-k-test.false
+returns c =
+    let l = c.args.list.now in
+    let id = c.args.id in
+    any_from_yields_List (λ e. same e id) _ _ _ c.any.ensures.ran (from_chunks 25 l (lit< tt) c.chunks_exact.ensures.rest c.chunks_exact.ensures.size)
+    (λ x b q k. search (rules, tests))

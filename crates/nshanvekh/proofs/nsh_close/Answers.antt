@@ -4,14 +4,14 @@ use Rattle.nshanvekh.proofs.Sessions.{close_wrong, close_sizes, close_refused, c
 use Rattle.nshanvekh.proofs.nsh_close.Goals as goal
 
 pub returns-then-not-session-numbers : goal.returns-then-not-session-numbers
-returns-then-not-session-numbers c = close_wrong c.if-not-session-numbers.true-raw
+returns-then-not-session-numbers c = close_wrong c.if-not-session-numbers.true
 
 pub returns-then-n-eq5 : goal.returns-then-n-eq5
-returns-then-n-eq5 c = close_refused c.if-not-session-numbers.false-raw c.unpack-s.ensures c.close-c.ensures c.number_of-n.ensures c.if-n-eq5.true
+returns-then-n-eq5 c = close_refused c.if-not-session-numbers.false c.unpack-s.ensures c.close-c.ensures c.number_of-n.ensures c.if-n-eq5.true
 
 pub tell-requires : goal.tell-requires
-tell-requires c = close_sizes c.args.session.now c.args.numbers.now c.args.id.now c.if-not-session-numbers.false-raw
+tell-requires c = close_sizes c.args.session.now c.args.numbers.now c.args.id.now c.if-not-session-numbers.false
 
 pub returns : goal.returns
-returns c = close_told c.if-not-session-numbers.false-raw c.unpack-s.ensures c.close-c.ensures c.number_of-n.ensures c.if-n-eq5.false c.pack.ensures
+returns c = close_told c.if-not-session-numbers.false c.unpack-s.ensures c.close-c.ensures c.number_of-n.ensures c.if-n-eq5.false c.pack.ensures
     c.tell.ensures

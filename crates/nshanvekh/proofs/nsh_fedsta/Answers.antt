@@ -1,7 +1,6 @@
 -- `nshanvekh::nsh_fedsta` meets its contract: a wrong size, else what writing tells.
 -- Assumes nothing.
-use mathlib.Core.Path.{refl}
-use lib.ListN.{replicate}
+use Rattle.std.proofs.Common.{rules}
 use Rattle.nshanvekh.proofs.CoverCalls.{fedsta_wrong, fedsta_told}
 use Rattle.nshanvekh.proofs.nsh_fedsta.Goals as goal
 
@@ -9,4 +8,4 @@ pub returns-then-id-ne25 : goal.returns-then-id-ne25
 returns-then-id-ne25 c = fedsta_wrong c.if-id-ne25.true
 
 pub returns : goal.returns
-returns c = fedsta_told c.if-id-ne25.false c.particulars-p.ensures (replicate 25 0) refl c.put.ensures.bytes c.write.ensures c.number_of.ensures
+returns c = fedsta_told c.if-id-ne25.false c.particulars-p.ensures (search rules) c.write.ensures c.number_of.ensures

@@ -25,6 +25,6 @@ returns c =
     let a = c.args in
     let f = fits-at start in
     let e =
-    counts_put a.t a.fill f.id a.out.now c.requires (c.put_at.ensures.place, c.put_at.ensures.bytes) (c.put_at-2.ensures.place, c.put_at-2.ensures.bytes)
+    counts_put a.t a.fill f.id a.out.now c.told-out (c.put_at.ensures.place, c.put_at.ensures.bytes) (c.put_at-2.ensures.place, c.put_at-2.ensures.bytes)
     c.put_eights.ensures in
     record { bytes = e; fits = f }

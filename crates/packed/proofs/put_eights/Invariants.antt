@@ -1,12 +1,7 @@
--- The invariant and the measure of the loop of `packed::put_eights`.
+-- The invariant of the loop of `packed::put_eights`.
 -- Assumes nothing.
 use Rattle.packed.proofs.Little.{Puts}
-use Prim.Native.Nat.{◌-◌}
-use lib.ListN.{length}
 use Rattle.packed.proofs.put_eights.Given as goal
 
 abbrev pub invariant-loop-i : goal.invariant-loop-i
 invariant-loop-i l = Puts l.initial.out l.at l.numbers l.out l.i
-
-abbrev pub decreases-loop-i : goal.decreases-loop-i
-decreases-loop-i l = length l.numbers - l.i

@@ -2,24 +2,22 @@
 -- Assumes nothing.
 use Rattle.packed.proofs.Parts.{tally_put, id_stands}
 use mathlib.Core.Path.{◌∙◌}
-use lib.ListN.{get_or}
-use borrow.Author.Tests.{eqb-false, not-true}
 use borrow.Author.Rules.{rules}
 use Rattle.packed.proofs.put_tally.Goals as goal
 
-pub returns-then-read : goal.returns-then-read
-returns-then-read c =
+pub returns-else-not-read : goal.returns-else-not-read
+returns-else-not-read c =
     let a = c.args in
     let f = c.put_counts.ensures.fits in
     let e = c.put_counts.ensures.bytes in
-    let s = c.requires.1.stands (eqb-false (get_or a.out.now 1 0) 0 (not-true _ c.if-read.true-raw)) in
-    record { bytes = e ∙ id_stands a.out.now c.requires.0 a.t a.fill f.id s; fits = f }
+    let s = c.requires.stands c.if-not-read.false in
+    record { bytes = e ∙ id_stands a.out.now c.told-out a.t a.fill f.id s; fits = f }
 
 pub slice_bounds-put_at-end : goal.slice_bounds-put_at-end
 slice_bounds-put_at-end c = search (rules, c.put_counts.ensures.fits.id)
 
-pub returns : goal.returns
-returns c =
+pub returns-then-not-read : goal.returns-then-not-read
+returns-then-not-read c =
     let a = c.args in
     let f = c.put_counts.ensures.fits in
-    record { bytes = tally_put a.t a.fill f.id a.out.now c.requires.0 c.put_counts.ensures.bytes (c.put_at.ensures.place, c.put_at.ensures.bytes); fits = f }
+    record { bytes = tally_put a.t a.fill f.id a.out.now c.told-out c.put_counts.ensures.bytes (c.put_at.ensures.place, c.put_at.ensures.bytes); fits = f }

@@ -2,10 +2,11 @@
 -- Assumes nothing.
 use mathlib.Core.List.{List}
 use mathlib.Core.Bool.{Bool, ◌&&◌}
-use mathlib.Core.Path.{◌≡◌}
+use mathlib.Core.Path.{◌≡◌, ◌∙◌}
 use Prim.Native.Nat.{ℕ}
 use lib.ListN.{get_or}
 use Rattle.frame.specs.Records.{ended}
+use Rattle.frame.proofs.Starts.{starts}
 use Rattle.digits.specs.Digits.{is_digits}
 use Rattle.base.specs.Bytes.{ascii, field, same}
 use Rattle.reading.specs.Reading.{head_right}
@@ -19,4 +20,6 @@ unfolding head_right
 all h p q r s t = rw (p, q, r, s, t)
 
 pub returns : goal.returns
-returns c = all c.args.h.now c.is_mark.ensures c.is_duplicate.ensures c.is_plain.ensures c.is_digits.ensures c.has_ending.ensures
+returns c =
+    let m = c.starts_with.ensures.value ∙ starts c.args.h.now (ascii "01STATUS") in
+    all c.args.h.now m c.is_duplicate.ensures c.is_plain.ensures c.is_digits.ensures c.has_ending.ensures

@@ -2,13 +2,14 @@
 -- Assumes nothing.
 use mathlib.Core.List.{List}
 use mathlib.Core.Bool.{Bool, true, false, ◌&&◌, and-false}
-use mathlib.Core.Path.{◌≡◌, refl}
+use mathlib.Core.Path.{◌≡◌, refl, ◌∙◌}
 use Prim.Native.Nat.{ℕ, ◌<◌}
 use native.Mathlib.Omega.{arith}
 use lib.Dec.{eqb}
 use borrow.Author.Tests.{eqb-true}
 use Rattle.fields.proofs.Numbers.{above_zero}
 use Rattle.frame.specs.Records.{ended}
+use Rattle.frame.proofs.Starts.{starts}
 use Rattle.digits.specs.Digits.{is_digits, number_of}
 use Rattle.base.specs.Bytes.{ascii, field, same}
 use Rattle.reading.specs.Reading.{reference_right}
@@ -28,4 +29,6 @@ unfolding reference_right
 all k r h p q s t = rw (p, q, s, t, of_digits (field 3 8 r) k (is_digits (field 9 10 r) && ended 63 r) h)
 
 pub returns : goal.returns
-returns c = all c.args.k c.args.r.now c.requires.1 c.is_mark.ensures c.number.ensures c.is_digits.ensures c.has_ending.ensures
+returns c =
+    all c.args.k c.args.r.now c.requires (c.starts_with.ensures.value ∙ starts c.args.r.now (ascii "02"))
+    c.number.ensures c.is_digits.ensures c.has_ending.ensures

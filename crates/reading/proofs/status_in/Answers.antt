@@ -48,8 +48,8 @@ overflow_cast-result-4 c = omega (arith, small 2 (drop 52 c.args.x.now))
 pub returns : goal.returns
 returns c =
     let x = c.args.x.now in
-    said x (omega arith) c.count_of-n.ensures c.identifier.ensures
+    said x (omega arith) c.count_of-references.ensures c.identifier.ensures
     c.number.ensures c.number-2.ensures
     c.number-3.ensures c.number-4.ensures
-    c.totals_at-accepted.ensures
-    c.totals_at-refused.ensures
+    c.totals_at.ensures
+    c.totals_at-2.ensures

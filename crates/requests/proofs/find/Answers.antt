@@ -1,31 +1,22 @@
--- `requests::find` meets its contract: the first request with the identifier is not among those walked over.
+-- `requests::find` meets its contract: the chunks are the requests, and the closure looks at the identifier.
 -- Assumes nothing.
-use mathlib.Core.Path.{sym, ◌∙◌}
-use Prim.Native.Nat.{◌/◌}
+use Prim.Native.Nat.{◌≤◌}
 use native.Mathlib.Omega.{arith}
 use lib.ListN.{length}
-use Rattle.base.proofs.Groups.{seek, seek_ends, length_groups}
-use Rattle.requests.proofs.Search.{found, missed}
+use borrow.Author.Rules.{rules}
+use Rattle.std.proofs.lemmas.Iterator.Search.{position_from_yields_List}
+use Rattle.base.proofs.Chunks.{from_chunks, chunks_serve}
+use Rattle.requests.specs.Requests.{has_id}
 use Rattle.requests.proofs.find.Goals as goal
 
-pub loop-k-init : goal.loop-k-init
-loop-k-init c = (omega arith, seek)
-
-pub returns-then-is_same : goal.returns-then-is_same
-returns-then-is_same c =
-    let l = c.args.list.now in
-    found l _ c.args.id.now c.loop-k.invariant.1 c.loop-k-test.true c.is_same.ensures c.if-is_same.true
-
-pub loop-k-preserved : goal.loop-k-preserved
-loop-k-preserved c =
-    let l = c.args.list.now in (
-      omega (arith, c.loop-k-test.true),
-      missed l _ c.args.id.now c.loop-k.invariant.1 c.loop-k-test.true c.is_same.ensures c.if-is_same.false,
-    )
+pub position-requires-clause-callable : goal.position-requires-clause-callable
+position-requires-clause-callable c =
+    chunks_serve 65 c.chunks_exact.ensures.size (λ x q k. search rules)
+    (λ x l. let h : 25 ≤ length x.now = omega (arith, l) in search rules)
 
 pub returns : goal.returns
+unfolding has_id
 returns c =
-    let l = c.args.list.now in
-    let g = length_groups 65 65 (length l / 65) l in
-    let e = c.loop-k.invariant.0 in
-    sym g ∙ seek_ends c.loop-k.invariant.1 (omega (arith, c.loop-k-test.false, e, g))
+    let a = c.args in
+    position_from_yields_List (has_id a.id.now) _ _ _ c.position.ensures.ran
+    (from_chunks 65 a.list.now (omega arith) c.chunks_exact.ensures.rest c.chunks_exact.ensures.size) (λ x b q k. search rules)

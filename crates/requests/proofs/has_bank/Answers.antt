@@ -1,26 +1,21 @@
--- `requests::has_bank` meets its contract: some request that is left is for the bank if any is.
+-- `requests::has_bank` meets its contract: the chunks are the requests, and the closure looks at the account's bank.
 -- Assumes nothing.
-use Prim.Native.Nat.{◌/◌}
 use native.Mathlib.Omega.{arith}
+use Prim.Native.Nat.{◌≤◌}
 use lib.ListN.{length}
-use Rattle.base.proofs.Groups.{look, look_ends, length_groups}
-use Rattle.requests.proofs.Search.{keeper, no_keeper}
+use borrow.Author.Rules.{rules}
+use Rattle.std.proofs.lemmas.Iterator.Search.{any_from_yields_List}
+use Rattle.base.proofs.Chunks.{from_chunks, chunks_serve}
+use Rattle.requests.specs.Requests.{keeps}
 use Rattle.requests.proofs.has_bank.Goals as goal
 
-pub loop-k-init : goal.loop-k-init
-loop-k-init c = look
-
-pub returns-then-is_same : goal.returns-then-is_same
-returns-then-is_same c =
-    let l = c.args.list.now in
-    keeper l _ c.args.bank.now c.loop-k.invariant c.loop-k-test.true c.is_same.ensures c.if-is_same.true
-
-pub loop-k-preserved : goal.loop-k-preserved
-loop-k-preserved c =
-    let l = c.args.list.now in
-    no_keeper l _ c.args.bank.now c.loop-k.invariant c.loop-k-test.true c.is_same.ensures c.if-is_same.false
+pub any-requires-clause-callable : goal.any-requires-clause-callable
+any-requires-clause-callable c =
+    chunks_serve 65 c.chunks_exact.ensures.size (λ x q k. search rules) (λ x l. let h : 28 ≤ length x.now = omega (arith, l) in search rules)
 
 pub returns : goal.returns
+unfolding keeps
 returns c =
-    let l = c.args.list.now in
-    look_ends c.loop-k.invariant (omega (arith, c.loop-k-test.false, length_groups 65 65 (length l / 65) l))
+    let a = c.args in
+    any_from_yields_List (keeps a.bank.now) _ _ _ c.any.ensures.ran
+    (from_chunks 65 a.list.now (omega arith) c.chunks_exact.ensures.rest c.chunks_exact.ensures.size) (λ x b q k. search rules)

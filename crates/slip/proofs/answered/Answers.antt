@@ -14,21 +14,21 @@ places : length {A = ℕ} (replicate bank_places 0) ≡ bank_places
 places = length-replicate {A = ℕ} bank_places 0
 
 pub slice_bounds-list-end : goal.slice_bounds-list-end
-slice_bounds-list-end g c = (banks c.read.ensures c.in-Files.is).low
+slice_bounds-list-end g c = (banks c.read.ensures c.in-Ok.is).low
 
 pub slice_bounds-judged-end : goal.slice_bounds-judged-end
-slice_bounds-judged-end g c = (banks c.read.ensures c.in-Files.is).long
+slice_bounds-judged-end g c = (banks c.read.ensures c.in-Ok.is).long
 
-pub returns-in-Refused : goal.returns-in-Refused
-returns-in-Refused g c =
+pub returns-in-Err : goal.returns-in-Err
+returns-in-Err g c =
     let f = c.read.ensures in
-    let t = not_read f places c.in-Refused.r c.in-Refused.is c.put_refusal.ensures (search rules) in
+    let t = not_read f places c.in-Err.r c.in-Err.is c.put_refusal.ensures (search rules) in
     let n = counts t in
     record { prefix_len = (n.low, n.long); text_for = t }
 
-pub returns-in-Files : goal.returns-in-Files
-returns-in-Files g c =
+pub returns-in-Ok : goal.returns-in-Ok
+returns-in-Ok g c =
     let f = c.read.ensures in
-    let t = by_files f places c.in-Files.day c.in-Files.banks c.in-Files.is c.judged.ensures in
+    let t = by_files f places c.in-Ok.given c.in-Ok.is c.judged.ensures in
     let n = counts t in
     record { prefix_len = (n.low, n.long); text_for = t }

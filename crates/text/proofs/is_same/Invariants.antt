@@ -1,12 +1,8 @@
--- The invariant and the measure of the loop of `text::is_same`.
+-- The invariant of the loop of `text::is_same`: what the bytes passed decided, with those that are left, decides as the whole does.
 -- Assumes nothing.
-use Prim.Native.Nat.{◌-◌}
-use lib.ListN.{length}
-use Rattle.base.proofs.Same.{Compared}
+use Rattle.std.proofs.Common.{◌≡◌, ◌&&◌, drop}
+use Rattle.base.specs.Bytes.{same}
 use Rattle.text.proofs.is_same.Given as goal
 
 abbrev pub invariant-loop-i : goal.invariant-loop-i
-invariant-loop-i l = Compared l.s l.t l.ok l.i
-
-abbrev pub decreases-loop-i : goal.decreases-loop-i
-decreases-loop-i l = length l.s - l.i
+invariant-loop-i l = l.ok && same (drop l.i l.s) (drop l.i l.t) ≡ same l.s l.t

@@ -1,27 +1,20 @@
--- `cover::codes::all_plain` meets its contract: the items that are left are plain if all are.
+-- `cover::codes::all_plain` meets its contract: the fronts of the chunks are the items.
 -- Assumes nothing.
-use mathlib.Core.Path.{sym, ◌∙◌}
+use Prim.Native.Nat.{◌≤◌}
 use native.Mathlib.Omega.{arith}
-use borrow.Author.Tests.{not-true, not-false}
-use Rattle.base.proofs.Groups.{pass, pass_stops, pass_on, pass_ends, group_next, length_groups}
+use lib.Dec.{lit≤}
+use lib.ListN.{length}
+use borrow.Author.Rules.{rules}
+use Rattle.std.proofs.lemmas.Iterator.Search.{all_from_yields_List}
+use Rattle.base.proofs.Chunks.{from_fronts, chunks_serve}
+use Rattle.text.specs.Text.{is_plain}
 use Rattle.cover.proofs.codes.all_plain.Goals as goal
 
-pub loop-k-init : goal.loop-k-init
-loop-k-init c = pass
-
-pub returns-then-not-is_plain : goal.returns-then-not-is_plain
-returns-then-not-is_plain c =
-    let a = c.args in
-    let next = group_next 72 70 a.n a.body.now _ c.loop-k-test.true in
-    pass_stops next c.loop-k.invariant (sym c.is_plain.ensures ∙ not-true _ c.if-not-is_plain.true-raw)
-
-pub loop-k-preserved : goal.loop-k-preserved
-loop-k-preserved c =
-    let a = c.args in
-    let next = group_next 72 70 a.n a.body.now _ c.loop-k-test.true in
-    pass_on next c.loop-k.invariant (sym c.is_plain.ensures ∙ not-false _ c.if-not-is_plain.false-raw)
+pub all-requires-clause-callable : goal.all-requires-clause-callable
+all-requires-clause-callable c =
+    chunks_serve 72 c.chunks_exact.ensures.size (λ x q k. search rules) (λ x l. let h : 70 ≤ length x.now = omega (arith, l) in search rules)
 
 pub returns : goal.returns
 returns c =
-    let a = c.args in
-    pass_ends c.loop-k.invariant (omega (arith, c.loop-k-test.false, length_groups 72 70 a.n a.body.now))
+    all_from_yields_List is_plain _ _ _ c.all.ensures.ran
+    (from_fronts 72 70 c.args.items.now (lit≤ tt) (omega arith) c.chunks_exact.ensures.rest c.chunks_exact.ensures.size) (λ x b q k. search rules)

@@ -1,40 +1,33 @@
 -- `cover::codes::is_plain` meets its contract: head, items, foot.
 -- Assumes nothing.
 use mathlib.Core.Path.{sym, ap, ◌∙◌}
-use native.Mathlib.Omega.{arith}
-use borrow.Author.Tests.{not-true, not-false}
 use Rattle.base.specs.Groups.{all}
 use Rattle.text.specs.Text.{is_plain}
+use Rattle.answers.specs.Fedjel.{items_in}
 use Rattle.answers.proofs.Form.{items}
-use Rattle.cover.proofs.Parts.{long, foot_lent, head_not_plain, items_not_plain, foot_plain}
+use Rattle.cover.proofs.Parts.{head_not_plain, items_not_plain, foot_plain}
+use Rattle.cover.proofs.codes.is_plain.Goals.{then-is_plain, else-is_plain}
 use Rattle.cover.proofs.codes.is_plain.Goals as goal
 
-pub slice_bounds-is_plain-end : goal.slice_bounds-is_plain-end
-slice_bounds-is_plain-end c = omega (arith, (long c.args.message.now c.requires).least)
+pub returns-then-all_plain : goal.returns-then-all_plain
+returns-then-all_plain c =
+    let m = c.args.f.now.message.now in
+    let h = c.is_plain.ensures ∙ ap is_plain c.head.ensures in
+    elim c.if-is_plain.branch [
+      | then-is_plain w ↦
+          foot_plain m h w.if-is_plain.true (w.all_plain.ensures ∙ ap (all is_plain) (ap items_in w.items.ensures ∙ items m))
+          (sym w.value-is ∙ c.if-all_plain.true) (c.is_plain-then-all_plain.ensures ∙ ap is_plain c.foot.ensures)
+      | else-is_plain w ↦ cc
+    ]
 
-pub returns-then-not-is_plain : goal.returns-then-not-is_plain
-returns-then-not-is_plain c =
-    let m = c.args.message.now in
-    head_not_plain m (sym c.is_plain.ensures ∙ not-true _ c.if-not-is_plain.true-raw)
-
-pub slice_bounds-all_plain-count : goal.slice_bounds-all_plain-count
-slice_bounds-all_plain-count c = omega (arith, (long c.args.message.now c.requires).least)
-
-pub slice_bounds-all_plain-start : goal.slice_bounds-all_plain-start
-slice_bounds-all_plain-start c = omega (arith, (long c.args.message.now c.requires).least)
-
-pub returns-then-not-all_plain : goal.returns-then-not-all_plain
-returns-then-not-all_plain c =
-    let m = c.args.message.now in
-    let i = c.all_plain.ensures ∙ ap (all is_plain) (items m c.count-n.ensures) in
-    items_not_plain m (sym c.is_plain.ensures ∙ not-false _ c.if-not-is_plain.false-raw) (sym i ∙ not-true _ c.if-not-all_plain.true-raw)
-
-pub slice_bounds-is_plain-end-2 : goal.slice_bounds-is_plain-end-2
-slice_bounds-is_plain-end-2 c = omega (arith, (long c.args.message.now c.requires).exact, c.count-n.ensures)
-
-pub returns : goal.returns
-returns c =
-    let m = c.args.message.now in
-    let i = c.all_plain.ensures ∙ ap (all is_plain) (items m c.count-n.ensures) in
-    let f = c.is_plain-2.ensures ∙ ap is_plain (foot_lent m c.count-n.ensures) in
-    foot_plain m (sym c.is_plain.ensures ∙ not-false _ c.if-not-is_plain.false-raw) (sym i ∙ not-false _ c.if-not-all_plain.false-raw) f
+pub returns-else-all_plain : goal.returns-else-all_plain
+returns-else-all_plain c =
+    let m = c.args.f.now.message.now in
+    let h = c.is_plain.ensures ∙ ap is_plain c.head.ensures in
+    elim c.if-is_plain.branch [
+      | then-is_plain w ↦
+          w.value-is
+          ∙ items_not_plain m h w.if-is_plain.true (w.all_plain.ensures ∙ ap (all is_plain) (ap items_in w.items.ensures ∙ items m))
+          (sym w.value-is ∙ c.if-all_plain.false)
+      | else-is_plain w ↦ w.value-is ∙ head_not_plain m h w.if-is_plain.false
+    ]

@@ -1,16 +1,9 @@
--- `cover::foot::added` meets its contract: by whether the sum is above the limit.
+-- `cover::foot::added` meets its contract: the smaller of the sum and the limit.
 -- Assumes nothing.
-use mathlib.Core.Path.{sym}
 use Prim.Native.Nat.{◌+◌}
-use Rattle.cover.proofs.Sums.{capped_under, capped_over}
+use mathlib.Core.Path.{◌∙◌}
+use Rattle.cover.proofs.Sums.{capped_min}
 use Rattle.cover.proofs.foot.added.Goals as goal
 
-pub returns-then-s-gt-LIMIT : goal.returns-then-s-gt-LIMIT
-returns-then-s-gt-LIMIT c =
-    let a = c.args in
-    sym (capped_over (a.a + a.b) c.if-s-gt-LIMIT.true)
-
 pub returns : goal.returns
-returns c =
-    let a = c.args in
-    sym (capped_under (a.a + a.b) c.if-s-gt-LIMIT.false)
+returns c = c.min.ensures ∙ capped_min (c.args.a + c.args.b)

@@ -4,7 +4,6 @@ use mathlib.Core.Path.{◌≡◌, sym, ap, ◌∙◌}
 use mathlib.Core.Bool.{Bool, true, false, cond}
 use mathlib.Core.List.{List}
 use Prim.Native.Nat.{ℕ}
-use borrow.Author.Tests.{not-true, not-false}
 use Rattle.base.specs.Bytes.{ascii, field, same}
 use Rattle.base.specs.Tables.{first_given}
 use Rattle.frame.specs.declared.Totals.{Totals}
@@ -32,22 +31,16 @@ module _ (faulty : Bool) (a b all : Totals) (f : List ℕ) where
 pub returns-then-not-is_same : goal.returns-then-not-is_same
 returns-then-not-is_same c =
     let a = c.args in
-    no_foot a.faulty a.a a.b a.all a.foot.now (sym c.is_same.ensures ∙ not-true _ c.if-not-is_same.true-raw)
-
-pub joint_code-requires : goal.joint_code-requires
-joint_code-requires c = c.requires
+    no_foot a.faulty a.a a.b a.all a.foot.now (sym c.is_same.ensures ∙ c.if-not-is_same.true)
 
 pub returns-then-faulty : goal.returns-then-faulty
 returns-then-faulty c =
     let a = c.args in
-    let e = sym c.is_same.ensures ∙ not-false _ c.if-not-is_same.false-raw in
+    let e = sym c.is_same.ensures ∙ c.if-not-is_same.false in
     joint a.faulty a.a a.b a.all a.foot.now e c.if-faulty.true c.joint_code.ensures
-
-pub typed_code-requires : goal.typed_code-requires
-typed_code-requires c = c.requires
 
 pub returns : goal.returns
 returns c =
     let a = c.args in
-    let e = sym c.is_same.ensures ∙ not-false _ c.if-not-is_same.false-raw in
+    let e = sym c.is_same.ensures ∙ c.if-not-is_same.false in
     typed a.faulty a.a a.b a.all a.foot.now e c.if-faulty.false c.typed_code.ensures

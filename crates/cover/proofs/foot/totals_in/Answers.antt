@@ -7,6 +7,7 @@ use Prim.Native.Nat.{ℕ}
 use native.Mathlib.Omega.{arith}
 use lib.Dec.{eqb}
 use lib.ListN.{length, get_or}
+use borrow.Author.Rules.{rules}
 use Rattle.base.specs.Bytes.{field, same}
 use Rattle.digits.specs.Digits.{number_of}
 use Rattle.answers.proofs.Form.{type_bytes}
@@ -35,9 +36,9 @@ module _ (t : ℕ) (it : List ℕ) (h : length it ≡ 70) where
 pub returns-then-item-last : goal.returns-then-item-last
 returns-then-item-last c =
     let a = c.args in
-    own a.last a.item.now c.requires c.if-item-last.true c.number.ensures
+    own a.last a.item.now (search rules) c.if-item-last.true c.number.ensures
 
 pub returns : goal.returns
 returns c =
     let a = c.args in
-    other a.last a.item.now c.requires c.if-item-last.false
+    other a.last a.item.now (search rules) c.if-item-last.false

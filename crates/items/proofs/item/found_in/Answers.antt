@@ -1,10 +1,11 @@
 -- `items::item::found_in` meets its contract: the codes by the findings are those of the table, and under a bar 14.
 -- Assumes nothing.
-use mathlib.Core.Path.{◌≡◌, ap}
+use mathlib.Core.Path.{◌≡◌, ap, ◌∙◌}
 use mathlib.Core.Bool.{Bool, false, cond, not}
 use mathlib.Core.List.{List}
 use Prim.Native.Nat.{ℕ}
 use lib.ListN.{length}
+use borrow.Author.Rules.{rules}
 use borrow.Author.Tests.{eq-eqb, ne_eqb}
 use Rattle.base.specs.Bytes.{field}
 use Rattle.text.specs.Text.{is_text}
@@ -46,13 +47,15 @@ module _ (told : Told) (e : ℕ) (is_listed : ℕ → Bool) (k : ℕ) (r : List 
   is_told : length r ≡ 249 → under_bar told.barred (given told.kind e is_listed k r) ≡ item_told told e is_listed k r
   is_told h = ap (under_bar told.barred) (is_found told.kind e is_listed k r h)
 
-pub returns-then-r-ne-ITEM : goal.returns-then-r-ne-ITEM
-returns-then-r-ne-ITEM c = broken_told c.args.told c.args.e (found_in c.args.banks.now) c.args.k c.args.r.now c.if-r-ne-ITEM.true c.under_bar.ensures
-
-pub fields_in-f-requires : goal.fields_in-f-requires
-fields_in-f-requires c = c.if-r-ne-ITEM.false
+pub returns-in_default : goal.returns-in_default
+returns-in_default c =
+    broken_told c.args.told c.args.e (found_in c.args.banks.now) c.args.k c.args.r.now (λ h. search rules) c.under_bar.ensures
 
 pub returns : goal.returns
 returns c =
+    let item = c.in-Ok.item.now in
+    let h : length item ≡ 249 = search rules in
+    let same : item ≡ c.args.r.now = search rules in
     rw (c.is_text.ensures, c.whole_of.ensures, c.under_bar-2.ensures, c.alone_of.ensures, c.fields_in-f.ensures, c.is_zero.ensures)
-    (is_told c.args.told c.args.e (found_in c.args.banks.now) c.args.k c.args.r.now c.if-r-ne-ITEM.false)
+    (is_told c.args.told c.args.e (found_in c.args.banks.now) c.args.k item h
+    ∙ ap (λ (r : List ℕ). item_told c.args.told c.args.e (found_in c.args.banks.now) c.args.k r) same)

@@ -5,7 +5,7 @@ use mathlib.Core.List.{List}
 use Prim.Native.Nat.{ℕ}
 use lib.ListN.{length}
 use borrow.Author.Tests.{eq-eqb}
-use Rattle.lent.specs.Lent.{Lists, listed}
+use Rattle.lent.specs.Lent.{Lists, listed_in}
 use Rattle.judge.specs.declared.Session.{Session}
 use Rattle.judge.specs.declared.Step.{Step}
 use Rattle.judge.specs.Session.{longest, give, taken, table_taken, Took, parts_of, parts_refused, stepped, table_stepped, Stepped}
@@ -28,5 +28,5 @@ module _ (s : Session) (p : List ℕ) (l : Lists) (t : List ℕ) (h : length s.h
 pub returns : goal.returns
 returns c =
     let a = c.args in
-    took a.self a.piece.now (listed a.banks.now a.known.now a.barred.now) a.table.now (search rules)
+    took a.self a.piece.now (listed_in a.lists.now) a.table.now (search rules)
     c.take_lent-step.ensures

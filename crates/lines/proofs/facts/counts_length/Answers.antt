@@ -11,7 +11,7 @@ use Rattle.lines.specs.Facts.{wide, count_lines}
 use Rattle.lines.proofs.facts.counts_length.Goals as goal
 
 counts_long : (s : Status) → length (count_lines s)
-    ≡ 33 + (places s.accepted.count + places s.accepted.sum + places s.refused.count + places s.refused.sum) + wide 1 s.references
+    ≡ 33 + (places s.accepted.count + places s.accepted.sum) + (places s.refused.count + places s.refused.sum) + wide 1 s.references
 unfolding count_lines
 counts_long s = simp (length-append, figures_length) (omega arith)
 

@@ -1,20 +1,17 @@
--- `lines::slip::places` meets its contract: the digits passed with those that are left are all.
+-- `lines::slip::places` meets its contract: one digit more than the highest power of ten that is no greater.
 -- Assumes nothing.
 use native.Mathlib.Omega.{arith}
-use Rattle.lines.proofs.Places.{start, on, ends, room, few, enough}
-use borrow.Author.Rules.{rules}
+use Rattle.std.proofs.Common.{rules}
+use Rattle.lines.proofs.Places.{by_power, none, enough}
 use Rattle.lines.proofs.slip.places.Goals as goal
 
-pub loop-left-init : goal.loop-left-init
-loop-left-init c = start _ (search rules)
+pub returns-in-Some : goal.returns-in-Some
+returns-in-Some c =
+    let k = c.in-Some.ensures in
+    let e = by_power c.in-Some.k c.args.n k.power_le k.next_power_gt k.bound in
+    (e, omega (arith, k.bound), rw e (enough c.args.n (search rules)))
 
-pub overflow_add-w : goal.overflow_add-w
-overflow_add-w c = omega (arith, room c.loop-left.invariant)
-
-pub loop-left-preserved : goal.loop-left-preserved
-loop-left-preserved c = on c.loop-left.invariant c.loop-left-test.true
-
-pub returns : goal.returns
-returns c =
-    let e = ends c.loop-left.invariant c.loop-left-test.false in
-    (e, omega (arith, few c.args.n), rw e (enough c.args.n (search rules)))
+pub returns-in-None : goal.returns-in-None
+returns-in-None c =
+    let z = c.in-None.ensures.none in
+    (none c.args.n z, omega arith, omega (arith, z))

@@ -12,6 +12,7 @@ use Rattle.lent.specs.declared.Refusal.{Refusal}
 use Rattle.base.specs.Put.{Written, Put}
 use Rattle.lines.specs.Slip.{places, line, refusal_line}
 use Rattle.base.proofs.Put.{written, unwritten}
+use borrow.Author.Rules.{rules}
 use Rattle.lines.proofs.slip.put_refusal.Goals as goal
 
 module _ (x : List ℕ) (r : Refusal) (n : ℕ) (e : n ≡ refusal_number r) (w : ℕ) (f : w ≡ places n) where
@@ -33,17 +34,17 @@ module _ (x : List ℕ) (r : Refusal) (n : ℕ) (e : n ≡ refusal_number r) (w 
 
 pub returns-then-out-w : goal.returns-then-out-w
 returns-then-out-w c =
-    no_room c.args.out.now c.args.r c.number-n.result c.number-n.ensures c.places-w.result c.places-w.ensures.0
+    no_room c.args.out.now c.args.r c.from-n.result (search rules) c.places-w.result c.places-w.ensures.0
     c.if-out-w.true
 
 pub put_line-requires : goal.put_line-requires
 put_line-requires c = (
-  fits c.args.out.now c.args.r c.number-n.result c.number-n.ensures c.places-w.result c.places-w.ensures.0
+  fits c.args.out.now c.args.r c.from-n.result (search rules) c.places-w.result c.places-w.ensures.0
       c.if-out-w.false,
   c.places-w.ensures.2,
 )
 
 pub returns : goal.returns
 returns c =
-    puts c.args.out.now c.args.r c.number-n.result c.number-n.ensures c.places-w.result c.places-w.ensures.0 c.if-out-w.false
+    puts c.args.out.now c.args.r c.from-n.result (search rules) c.places-w.result c.places-w.ensures.0 c.if-out-w.false
     c.put_line.ensures

@@ -25,20 +25,15 @@ use Rattle.status.proofs.reply.put_references.Goals as goal
 start : (xs m cs : List ℕ) (n : ℕ) → n * 65 ≤ length xs → Referable m cs n → Writing xs m cs n xs 0
 start xs m cs n h ok =
     let put : Put xs 0 (references 1 cs []) xs = record { is = sym (over_none xs 0) ∙ ap (over xs 0) (sym (none 1 cs)); long = ap length (none 1 cs) } in
-    record { within = omega arith; room = h; ok = ok; put = put }
+    record { room = h; ok = ok; put = put }
 
 module _ {xs m cs : List ℕ} {n : ℕ} {ys : List ℕ} {i : ℕ} (w : Writing xs m cs n ys i) where
-  long : length ys ≡ length xs
-  long = ap length w.put.is ∙ length_over xs 0 (references 1 cs (take i (items_of lengths m))) (omega (arith, w.within, w.room, w.put.long))
-
-  ends : n ≤ i → ys ≡ over xs 0 (references 1 cs (take n (items_of lengths m)))
-  ends h =
-      let e : i ≡ n = omega (arith, w.within) in
-      w.put.is ∙ ap (λ (j : ℕ). over xs 0 (references 1 cs (take j (items_of lengths m)))) e
+  long : i ≤ n → length ys ≡ length xs
+  long h = ap length w.put.is ∙ length_over xs 0 (references 1 cs (take i (items_of lengths m))) (omega (arith, w.room, w.put.long))
 
   module _ (h : i < n) where
     fits : i * 65 + 65 ≤ length ys
-    fits = omega (arith, w.room, long)
+    fits = omega (arith, w.room, long (omega arith))
 
     stands : place i + item_end ≤ length m
     stands = (placed m i (omega (arith, w.ok.items))).long
@@ -66,37 +61,28 @@ module _ {xs m cs : List ℕ} {n : ℕ} {ys : List ℕ} {i : ℕ} (w : Writing x
         let l : length r ≡ lengths.item = length-take-le lengths.item (drop (place i) m) (omega (arith, p.long, length-drop (place i) m)) in
         let k = reference_length (i + 1) (get_or cs i 0) r l in
         let f = part ys (i * 65) (reference (i + 1) (get_or cs i 0) r) zs (omega (arith, fits, k)) (rw d at e) in
-        let q = next w.put (reference (i + 1) (get_or cs i 0) r) (put_mid (i * 65) (length ys - i * 65) ys zs) 65 k (omega (arith, fits, long)) f in
+        let q =
+        next w.put (reference (i + 1) (get_or cs i 0) r) (put_mid (i * 65) (length ys - i * 65) ys zs) 65 k (omega (arith, fits, long (omega arith))) f in
         let s : references 1 cs (take i (items_of lengths m)) ++ reference (i + 1) (get_or cs i 0) r ≡ references 1 cs (take (i + 1) (items_of lengths m)) =
         ap (λ (n : ℕ). references 1 cs (take i (items_of lengths m)) ++ reference n (get_or cs i 0) r) (add_comm i 1)
         ∙ ap (λ (x : List ℕ). references 1 cs (take i (items_of lengths m)) ++ reference (1 + i) (get_or cs i 0) x) (sym p.bytes)
         ∙ sym (references_snoc 1 cs (items_of lengths m) i coded (omega (arith, w.ok.items)))
         ∙ ap (λ (n : ℕ). references 1 cs (take n (items_of lengths m))) (sym (add-one i)) in
         let t : i * 65 + 65 ≡ (i + 1) * 65 = omega arith in
-        record { within = omega arith; room = w.room; ok = w.ok; put = rw (s, t) at q }
+        record { room = w.room; ok = w.ok; put = rw (s, t) at q }
 
 pub loop-i-init : goal.loop-i-init
 loop-i-init c =
     let a = c.args in
     start a.out.now a.message.now a.codes.now a.n c.requires.n_in_bounds c.requires.referable
 
-pub slice_bounds-put_reference-count : goal.slice_bounds-put_reference-count
-slice_bounds-put_reference-count c = omega (arith, fits c.loop-i.invariant c.loop-i-test.true)
-
-pub slice_bounds-put_reference-start : goal.slice_bounds-put_reference-start
-slice_bounds-put_reference-start c = omega (arith, fits c.loop-i.invariant c.loop-i-test.true)
-
-pub slice_bounds-put_reference-end-in-loop-i : goal.slice_bounds-put_reference-end-in-loop-i
-slice_bounds-put_reference-end-in-loop-i c = omega (arith, stands c.loop-i.invariant c.loop-i-test.true)
-
-pub put_reference-requires : goal.put_reference-requires
-put_reference-requires c = asked c.loop-i.invariant c.loop-i-test.true
+pub slice_bounds-item-end : goal.slice_bounds-item-end
+slice_bounds-item-end c = omega (arith, stands c.loop-i.invariant c.loop-i-test.true)
 
 pub loop-i-preserved : goal.loop-i-preserved
 loop-i-preserved c = on c.loop-i.invariant c.loop-i-test.true _ c.put_reference.ensures
 
-pub shape_of-out : goal.shape_of-out
-shape_of-out c = long c.loop-i.invariant
-
 pub returns : goal.returns
-returns c = ends c.loop-i.invariant c.loop-i-test.false
+returns c =
+    let e : c.loop-i.i ≡ c.args.n = omega arith in
+    c.loop-i.invariant.put.is ∙ ap (λ (j : ℕ). over c.args.out.now 0 (references 1 c.args.codes.now (take j (items_of lengths c.args.message.now)))) e

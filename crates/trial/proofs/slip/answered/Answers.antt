@@ -5,11 +5,11 @@ use Rattle.files.proofs.Within.{banks}
 use Rattle.trial.proofs.slip.answered.Goals as goal
 
 pub slice_bounds-list-end : goal.slice_bounds-list-end
-slice_bounds-list-end c = (banks c.read.ensures c.in-Files.is).low
+slice_bounds-list-end c = (banks c.read.ensures c.in-Ok.is).low
 
-pub slice_bounds-judged-end : goal.slice_bounds-judged-end
-slice_bounds-judged-end c = (banks c.read.ensures c.in-Files.is).long
+pub slice_bounds-lists-end : goal.slice_bounds-lists-end
+slice_bounds-lists-end c = (banks c.read.ensures c.in-Ok.is).long
 
-pub returns-in-Refused : goal.returns-in-Refused
-returns-in-Refused c =
+pub returns-in-Err : goal.returns-in-Err
+returns-in-Err c =
     let f = text c.put_refusal.ensures in (f.low, f.long)

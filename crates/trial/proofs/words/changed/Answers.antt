@@ -1,4 +1,4 @@
--- `trial::words::changed` is safe and ends: each turn goes past a change, and the base is read onward; its answer counts bytes of the text.
+-- `trial::words::changed` is safe: its answer counts bytes of the text.
 -- Assumes nothing.
 use Rattle.std.proofs.Common.{sym, length-take-le, rules}
 use Rattle.trial.proofs.words.changed.Goals as goal

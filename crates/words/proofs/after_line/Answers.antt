@@ -1,0 +1,10 @@
+-- `words::after_line` meets its contract: by the place of the line's end.
+-- Assumes nothing.
+use Rattle.words.proofs.Lines.{rest, no_rest}
+use Rattle.words.proofs.after_line.Goals as goal
+
+pub returns-in-Some : goal.returns-in-Some
+returns-in-Some c = rest c.args.table.now c.line_end.ensures c.in-Some.is
+
+pub returns-in-None : goal.returns-in-None
+returns-in-None c = no_rest c.args.table.now c.line_end.ensures c.in-None.is
