@@ -1,10 +1,9 @@
 // The answer on a single head or item (01, Calls and their answers), and its number for a host in C (include/nshanvekh.h).
 #![tactic(auto)]
 
-ghost use Rattle.std.specs.Prelude.{◌≡◌, [], ◌+◌, ◌*◌, ◌≤◌, length};
+ghost use Rattle.std.specs.Prelude.{◌≡◌, [], ◌+◌, ◌*◌, ◌≤◌};
 ghost use Rattle.lists.specs.Banks.{found_in};
 ghost use Rattle.lent.specs.Lent.{lent};
-ghost use Rattle.frame.specs.Records.{lengths};
 ghost use Rattle.findings.specs.Findings.{kind_number};
 ghost use Rattle.fields.specs.Fields.{letter_found};
 ghost use Rattle.findings.specs.Naming.{naming, else_answer};
@@ -61,8 +60,7 @@ fn letters(s: &[u8]) -> Finding
 
 // The first text field of a whole head with a bad letter.
 #[tactic(auto, unfolding(crate::specs::Single::head_texts))]
-fn head_letters(r: &[u8]) -> Result<(), Answer>
-    requires { length r.now ≡ lengths.head }
+fn head_letters(r: &[u8; frame::HEAD]) -> Result<(), Answer>
     ensures { result ≡ naming (head_texts r.now) }
 {
     letters(&r[69..104]).map_err(Answer::Name)?;
@@ -71,8 +69,7 @@ fn head_letters(r: &[u8]) -> Result<(), Answer>
 
 // The first text field of a whole item with a bad letter.
 #[tactic(auto, unfolding(crate::specs::Single::item_texts))]
-fn item_letters(r: &[u8]) -> Result<(), Answer>
-    requires { length r.now ≡ lengths.item }
+fn item_letters(r: &[u8; frame::ITEM]) -> Result<(), Answer>
     ensures { result ≡ naming (item_texts r.now) }
 {
     letters(&r[50..74]).map_err(Answer::CustomerId)?;
@@ -83,8 +80,7 @@ fn item_letters(r: &[u8]) -> Result<(), Answer>
 }
 
 // The judging of a whole head: a bad letter first, then the fields in order.
-fn head_alone(r: &[u8], e: u32, banks: &[u32], known: &[u8]) -> Result<(), Answer>
-    requires { length r.now ≡ lengths.head }
+fn head_alone(r: &[u8; frame::HEAD], e: u32, banks: &[u32], known: &[u8]) -> Result<(), Answer>
     ensures { else_answer result Answer.Accepted ≡ head_answer e (found_in banks.now) known.now r.now }
 {
     head_letters(r)?;
@@ -92,8 +88,7 @@ fn head_alone(r: &[u8], e: u32, banks: &[u32], known: &[u8]) -> Result<(), Answe
 }
 
 // The judging of a whole item at place k of a message of a kind: a bad letter first, then the fields in order.
-fn item_alone(r: &[u8], k: u64, kind: u32, e: u32, banks: &[u32]) -> Result<(), Answer>
-    requires { length r.now ≡ lengths.item }
+fn item_alone(r: &[u8; frame::ITEM], k: u64, kind: u32, e: u32, banks: &[u32]) -> Result<(), Answer>
     ensures { else_answer result Answer.Accepted ≡ item_answer kind e (found_in banks.now) k r.now }
 {
     item_letters(r)?;
@@ -115,10 +110,10 @@ fn judged(r: &[u8], k: u64, kind: u32, e: u32, banks: &[u32], known: &[u8]) -> R
     };
     lists.refused().map_err(Answer::Refused)?;
     if r.len() == frame::HEAD {
-        return head_alone(r, e, banks, known);
+        return head_alone(r.as_array().unwrap(), e, banks, known);
     }
     if r.len() == frame::ITEM {
-        return item_alone(r, k, kind, e, banks);
+        return item_alone(r.as_array().unwrap(), k, kind, e, banks);
     }
     Err(Answer::Refused(Refusal::Malformed))
 }

@@ -2,6 +2,7 @@
 -- Assumes nothing.
 use mathlib.Core.Path.{sym, ◌∙◌}
 use native.Mathlib.Omega.{arith}
+use borrow.Author.Rules.{rules}
 use Rattle.std.proofs.lemmas.Grind.{common_steps}
 use Rattle.lists.specs.Banks.{found_in}
 use Rattle.single.proofs.Fields.{item_ended, item_went_on}
@@ -19,5 +20,5 @@ returns-in_err-item_letters c =
 pub returns : goal.returns
 returns c =
     rw (c.item_named.ensures, c.all_findings.ensures)
-    (item_went_on c.args.kind c.args.e (found_in c.args.banks.now) c.args.k c.args.r.now c.requires _
+    (item_went_on c.args.kind c.args.e (found_in c.args.banks.now) c.args.k c.args.r.now (search rules) _
     (sym c.item_letters.ensures ∙ c.in_ok-item_letters.was))
