@@ -1,12 +1,13 @@
 -- A number put at a place of a list.
 -- Assumes nothing.
 use mathlib.Core.Path.{◌≡◌}
+use mathlib.Core.Bool.{false}
 use mathlib.Core.List.{List}
 use Prim.Native.Nat.{ℕ, ◌+◌, ◌^◌, ◌≤◌, ◌<◌}
 use lib.ListN.{length}
 use borrow.Author.Tests.{le-leb, lt-ltb}
 use Rattle.base.specs.Put.{Put}
-use Rattle.digits.specs.Digits.{figures, with_number_at, after_number}
+use Rattle.digits.specs.Digits.{figures, has_room_at, with_number_at, after_number}
 use Rattle.digits.proofs.Figures.{figures_length}
 
 -- what `digits::put_at` gives
@@ -22,3 +23,8 @@ module _ (xs : List ℕ) (at w n : ℕ) where
       let f = lt-ltb n (10 ^ w) k in
       let l = figures_length w n in
       record { next = simp l (simp (e, f) at p.0); bytes = simp (e, f) at p.1 }
+
+  -- where it does not
+  pub stays : has_room_at xs at w n ≡ false → PutAt xs at w n at xs
+  unfolding after_number with_number_at
+  stays e = (rw e, rw e)

@@ -5,4 +5,5 @@ pub mod Turn
 pub mod Ranges
 pub mod Great
 pub mod Refusals
+pub mod Beside
 pub mod Kept

@@ -8,8 +8,8 @@ use Rattle.lent.specs.declared.Refusal.{Refusal}
 use Rattle.lent.specs.declared.Refusal.TheVariants as refusal
 use Rattle.frame.specs.declared.Tally.{Tally}
 use Rattle.frame.specs.declared.Closing.{Closing}
-use Rattle.frame.specs.Records.{item_end}
-use Rattle.frame.specs.Verdict.{Verdict, verdict, table_after}
+use Rattle.frame.specs.Records.{item_end, no_id}
+use Rattle.frame.specs.Verdict.{Verdict, verdict, table_after, blank}
 use Rattle.frame.specs.Machine.{State, unread, phased, fresh, items, size, run, closing}
 use Rattle.frame.specs.Sound.{most_code, most_amount, most_kind}
 use Rattle.kinds.specs.Codes.{rules}
@@ -130,6 +130,15 @@ pub record Stepped (e room : ℕ) (c : Tally) (fill : ℕ) (h p : List ℕ) (l :
 -- the closing of a verdict, or overflow
 abbrev pub closing_of : Verdict → Result Closing Refusal
 closing_of v = cond (eqb v.refusal 0) (Ok v.closing) (Err refusal.Overflow)
+
+-- kind 0, the five numbers at 0, and spaces
+abbrev pub no_closing : Closing
+no_closing = blank 0 0 no_id
+
+-- a closing; where it was refused, what stands beside the refusal's number
+abbrev pub or_no_closing : Result Closing Refusal → Closing
+or_no_closing (Ok k) = k
+or_no_closing (Err r) = no_closing
 
 -- what closing gives for a verdict
 abbrev pub closed_as : Verdict → Closed

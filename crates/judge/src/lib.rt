@@ -23,6 +23,7 @@ ghost use Rattle.judge.specs.Session.{
   piece_refused,
   Stepped,
   closed_of,
+  or_no_closing,
 };
 ghost use Rattle.judge.specs.Inner.{Ready, Countable, Summed, ItemRead, FootRead, Read, Fit, Partial, Became, EndedAs, WalkedOf};
 
@@ -184,21 +185,20 @@ fn head_read(tally: Tally, r: &[u8], day: u32, lists: &Lists) -> Tally
     }
 }
 
-// What is found in an item is counted.
+// What is found in an item is counted, in a copy of the tally (docs/FIGURES.md, What a piece costs).
 fn counted(tally: Tally, f: frame::Found) -> Tally
     requires { Countable tally f }
     ensures { result ≡ item_tally tally f }
 {
     let accepted = f.code == 0;
-    Tally {
-        phase: 1,
-        letter: tally.letter | f.letter,
-        code: findings::earlier(tally.code, f.fault),
-        accepted: more(accepted, f.amount, tally.accepted),
-        refused: more(!accepted, f.amount, tally.refused),
-        zeros: one_more(tally.zeros, accepted & f.zero),
-        ..tally
-    }
+    let mut t = tally;
+    t.phase = 1;
+    t.letter = tally.letter | f.letter;
+    t.code = findings::earlier(tally.code, f.fault);
+    t.accepted = more(accepted, f.amount, tally.accepted);
+    t.refused = more(!accepted, f.amount, tally.refused);
+    t.zeros = one_more(tally.zeros, accepted & f.zero);
+    t
 }
 
 // An item is read, without the ending, by its rules, which may use the day and what the head told. Its code goes to its own byte;
@@ -616,4 +616,11 @@ fn closing_of(t: Tally) -> Closing
         zeros: t.zeros,
         id,
     }
+}
+
+// A closing; where it was refused, what stands beside the refusal's number: kind 0, the five numbers at 0, and spaces (docs/DECISIONS.md, 36).
+pub fn or_no_closing(closing: Result<Closing, Refusal>) -> Closing
+    ensures { result ≡ or_no_closing closing }
+{
+    closing.unwrap_or(blank(0, 0, [b' '; 25]))
 }

@@ -10,7 +10,7 @@ use lib.ListN.{length, get_or}
 use borrow.Author.Tests.{ltb-true, leb-true, lt-ltb, le-leb}
 use Rattle.base.specs.Bytes.{every}
 use Rattle.base.proofs.Every.{both}
-use Rattle.lists.specs.Banks.{above, ascends, ascends_to}
+use Rattle.lists.specs.Banks.{above, ascends, ascends_to, is_bank_list}
 
 -- above p of x ∷ l, taken apart
 pub parts : (p x : ℕ) (l : List ℕ) → above p (x ∷ l) ≡ true → (p < x) × (above x l ≡ true)
@@ -52,3 +52,11 @@ module _ (top : ℕ) where
       go : (t : Bool) → above x xs ≡ t → t && every (λ y. leb y top) (x ∷ xs) ≡ t && leb (get_or (x ∷ xs) (length xs) 0) top
       go true e = last x xs e
       go false e = refl
+
+-- a list that ascends to a limit ascends
+pub ordered : (top : ℕ) (l : List ℕ) → ascends_to top l ≡ true → ascends l ≡ true
+ordered top l e = (both (ascends l) (every (λ x. leb x top) l) e).0
+
+-- a bank list ascends
+pub bank_ascends : (l : List ℕ) → is_bank_list l ≡ true → ascends l ≡ true
+bank_ascends l e = ordered 99999999 l e

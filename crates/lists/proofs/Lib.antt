@@ -1,3 +1,4 @@
 pub mod Ascent
 pub mod Halves
+pub mod Known
 pub mod Member

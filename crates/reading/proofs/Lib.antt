@@ -5,3 +5,4 @@ pub mod RecordsRead
 pub mod MessageRead
 pub mod ReadBack
 pub mod Refusals
+pub mod Beside

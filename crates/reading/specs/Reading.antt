@@ -4,7 +4,8 @@ use Rattle.std.specs.Prelude.{ℕ, zero, suc, ◌+◌, ◌-◌, ◌*◌, ◌/◌
 use Rattle.std.specs.Prelude.{leb, ltb, eqb, Result, Ok, Err}
 use Rattle.base.specs.Bytes.{ascii, field, same, over}
 use Rattle.digits.specs.Digits.{is_digits, number_of}
-use Rattle.frame.specs.Records.{ended}
+use Rattle.frame.specs.Records.{no_id, ended}
+use Rattle.frame.specs.Verdict.{none}
 use Rattle.lent.specs.declared.Refusal.{Refusal}
 use Rattle.lent.specs.declared.Refusal.TheVariants.{Room, Malformed}
 use Rattle.frame.specs.declared.Status.{Status}
@@ -96,6 +97,26 @@ is_status x =
     && (eqb ((length x - 104) % 65) 0
     && (head_right (head_in x)
     && (references_right 1 (references_in x) && (foot_right (foot_in x) && counts_right (status_in x) (codes_in x)))))
+
+-- zeros and spaces
+abbrev pub no_status : Status
+no_status =
+    record {
+      duplicate = 0;
+      id = no_id;
+      date = 0;
+      number = 0;
+      time = 0;
+      code = 0;
+      accepted = none;
+      refused = none;
+      references = 0;
+    }
+
+-- what a STATUS says; where reading it was refused, what stands beside the refusal's number
+abbrev pub or_no_status : Result Status Refusal → Status
+or_no_status (Ok s) = s
+or_no_status (Err r) = no_status
 
 -- refusals 10, 9
 unfoldable pub read_of : List ℕ → List ℕ → Result Status Refusal

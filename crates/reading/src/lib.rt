@@ -11,6 +11,7 @@ ghost use Rattle.reading.specs.Reading.{
   foot_right,
   codes_in,
   status_in,
+  or_no_status,
   ReadAs,
 };
 ghost use Rattle.reading.specs.Checking.{has_lengths, parts_right, reference_at, zeros_of, totals_at, counts_are};
@@ -184,4 +185,21 @@ pub fn read_status(bytes: &[u8], table: &mut [u8]) -> Result<Status, Refusal>
     }
     put_codes(bytes, table);
     Ok(s)
+}
+
+// What a STATUS says; where reading it was refused, what stands beside the refusal's number: zeros and spaces (docs/DECISIONS.md, 41).
+pub fn or_no_status(read: Result<Status, Refusal>) -> Status
+    ensures { result ≡ or_no_status read }
+{
+    read.unwrap_or(Status {
+        duplicate: 0,
+        id: [b' '; 25],
+        date: 0,
+        number: 0,
+        time: 0,
+        code: 0,
+        accepted: Totals { count: 0, sum: 0 },
+        refused: Totals { count: 0, sum: 0 },
+        references: 0,
+    })
 }

@@ -18,9 +18,10 @@ use Rattle.frame.specs.Verdict.{Rules, Verdict, found_in, overflows, verdict, ta
 use Rattle.frame.specs.Machine.{joined}
 use Rattle.kinds.specs.Codes.{rules}
 use Rattle.judge.specs.declared.Closed.{Closed}
-use Rattle.judge.specs.Session.{most, opened, closing_of, closed_of}
+use Rattle.judge.specs.Session.{most, opened, closing_of, closed_of, or_no_closing}
 use Rattle.judge.specs.Feeding.{fed}
 use Rattle.judge.proofs.Great.{Passing, great}
+use Rattle.judge.proofs.Beside.{verdict_beside}
 use Rattle.status.specs.declared.reply.Particulars.{Particulars}
 use Rattle.status.specs.Reply.{saying, room, verdict_of, referred, said}
 use Rattle.status.proofs.Bounds.{room_length, told_length, told_table}
@@ -69,6 +70,14 @@ module _ (l : Lent) (t : List ℕ) (ps : List (List ℕ)) (g : Passing l) (h : l
       go : (b : Bool) → Ok k ≡ cond b (Ok (verdict_of l m).closing) (Err refusal.Overflow) → k ≡ (verdict_of l m).closing
       go true q = cc
       go false q = absurd (never q)
+
+  -- and where closing is refused, what stands beside its number
+  pub session_said : (p : Particulars)
+      → saying l.day (field 10 34 (joined ps)) p (or_no_closing (closed_of (fed (opened l.day t).next t l.lists ps).0).closing) ≡ said l (joined ps) p
+  session_said p =
+      ap (λ (c : Closed). saying l.day (field 10 34 m) p (or_no_closing c.closing)) (great l t ps g (omega arith)).0
+      ∙ ap (saying l.day (field 10 34 m) p) (verdict_beside l t m)
+      ∙ ap (λ (v : Verdict). saying l.day (field 10 34 m) p v.closing) same_verdict
 
   -- and its codes are the first of the table
   pub session_codes : overflows R room (joined ps) ≡ false

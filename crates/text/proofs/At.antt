@@ -2,10 +2,10 @@
 -- Assumes nothing.
 use mathlib.Core.Path.{◌≡◌, ◌∙◌}
 use mathlib.Core.List.{List}
-use Prim.Native.Nat.{ℕ, ◌+◌, ◌-◌, ◌≤◌}
+use Prim.Native.Nat.{ℕ, ◌+◌, ◌-◌, ◌≤◌, ◌<◌}
 use native.Mathlib.Omega.{arith}
 use lib.ListN.{length, take, drop}
-use borrow.Author.Tests.{le-leb}
+use borrow.Author.Tests.{le-leb, lt-leb}
 use borrow.Rule.Slice.PartMut.{put_mid}
 use Rattle.base.specs.Bytes.{over}
 use Rattle.base.specs.Put.{Put}
@@ -36,3 +36,8 @@ module _ (xs : List ℕ) (at : ℕ) (s : List ℕ) where
   puts h p =
       let e = le-leb (at + length s) (length xs) h in
       record { next = simp e at p.0; bytes = simp e at p.1 }
+
+  -- where it does not
+  pub stays : length xs < at + length s → PutAt xs at s at xs
+  unfolding after_bytes with_bytes_at
+  stays h = let e = lt-leb (at + length s) (length xs) h in (simp e, simp e)

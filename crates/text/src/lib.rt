@@ -100,6 +100,7 @@ pub fn is_same(s: &[u8], t: &[u8]) -> bool
     ok
 }
 
+// Kept: a loop, and no `copy_from_slice`: that makes the library ask its host for memmove (a: include/nshanvekh.h promises memcpy and memset).
 // The bytes at the front of what is lent. Where it is shorter, the answer is false and nothing is written.
 #[tactic(auto, unfolding(crate::specs::Text::with_bytes, base::specs::Bytes::over))]
 pub fn put(out: &mut [u8], s: &[u8]) -> bool
@@ -109,7 +110,9 @@ pub fn put(out: &mut [u8], s: &[u8]) -> bool
     if out.len() < s.len() {
         return false;
     }
-    out[..s.len()].copy_from_slice(s);
+    for (i, b) in s.iter().enumerate() {
+        out[i] = *b;
+    }
     true
 }
 

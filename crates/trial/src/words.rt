@@ -116,11 +116,12 @@ pub(crate) fn add_many(memory: &mut [u8], at: usize, r: &[u8]) -> usize {
     repeated(memory, at, field(r, 0, 6) as u64, shift, w, r[8], &r[9..])
 }
 
-// A hexadecimal digit; of another byte 0.
-fn nibble(b: u8) -> u8
-    ensures { result ≤ 15 }
+// Kept: no `to_digit`: another byte has to stand for the number that it always stood for (a).
+// A hexadecimal digit, 0 to 9 and a to f; of another byte a number that means nothing.
+fn nibble(b: u8) -> usize
+    ensures { result ≤ 42 }
 {
-    char::from(b).to_digit(16).unwrap_or(0) as u8
+    (b % 16 + b / 64 * 9) as usize
 }
 
 // The bytes that a text spells, two hexadecimal digits each, are put into the text from a place on, as far as there is room: the place
@@ -130,24 +131,27 @@ fn put_hex(text: &mut [u8], mut at: usize, r: &[u8]) -> usize {
         if at >= text.len() {
             break;
         }
-        text[at] = nibble(*high) * 16 + nibble(*low);
+        text[at] = ((nibble(*high) * 16 + nibble(*low)) % 256) as u8;
         at += 1;
     }
     at
 }
 
 // The base text with the changes of a line, in ascending order, each a space, four digits k, four digits n and the bytes that stand in place
-// of the n after the base's first k: the length of the text.
+// of the n after the base's first k: the length of the text. The digits of a change that is too short are read on into the next.
 pub(crate) fn changed(text: &mut [u8], base: &[u8], r: &[u8]) -> usize
     ensures { IsPrefixLen result text.new }
 {
     let mut at = 0;
     let mut from = 0;
-    for change in r.split(|b| *b == b' ').skip(1) {
-        let first = (field(change, 0, 4) as usize).clamp(from, base.len());
+    let list = r.get(1..).unwrap_or(&[]);
+    let mut left = list;
+    for change in list.split(|b| *b == b' ') {
+        let first = (field(left, 0, 4) as usize).clamp(from, base.len());
         at = put_at(text, at, &base[from..first]);
         at = put_hex(text, at, change.get(8..).unwrap_or(&[]));
-        from = ahead(first, field(change, 4, 8) as usize, base.len());
+        from = ahead(first, field(left, 4, 8) as usize, base.len());
+        left = left.get(change.len() + 1..).unwrap_or(&[]);
     }
     put_at(text, at, &base[from..]).min(text.len())
 }

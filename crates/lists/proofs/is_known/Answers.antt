@@ -1,12 +1,17 @@
 -- `lists::is_known` meets its contract: the chunks of the list are its whole identifiers.
 -- Assumes nothing.
-use Rattle.std.proofs.Common.{rules}
-use borrow.Author.Tests.{tests}
 use lib.Dec.{lit<}
+use borrow.Author.Rules.{rules}
+use borrow.Author.Tests.{tests}
 use Rattle.std.proofs.lemmas.Iterator.Search.{any_from_yields_List}
 use Rattle.base.specs.Bytes.{same}
-use Rattle.base.proofs.Chunks.{from_chunks}
+use Rattle.base.proofs.Chunks.{from_chunks, chunks_serve}
 use Rattle.lists.proofs.is_known.Goals as goal
+
+pub any-requires-clause-callable : goal.any-requires-clause-callable
+any-requires-clause-callable c =
+    chunks_serve 25 c.chunks_exact.ensures.size (λ x q k. search rules)
+    (λ x l. search (rules, l))
 
 pub returns : goal.returns
 returns c =
