@@ -185,7 +185,8 @@ fn head_read(tally: Tally, r: &[u8], day: u32, lists: &Lists) -> Tally
     }
 }
 
-// What is found in an item is counted, in a copy of the tally (docs/FIGURES.md, What a piece costs).
+// Kept: (a) a copy of the tally, and no new one: docs/FIGURES.md says so (What a piece costs).
+// What is found in an item is counted.
 fn counted(tally: Tally, f: frame::Found) -> Tally
     requires { Countable tally f }
     ensures { result ≡ item_tally tally f }

@@ -89,7 +89,8 @@ pub fn is_known_list(list: &[u8]) -> bool
     list.len() % 25 == 0
 }
 
-// Whether an entry of the known list is the identifier, part after part: `==` over all 25 bytes costs more wherever an entry differs early.
+// Kept: (b) `==` over all 25 bytes costs more wherever the first four agree (docs/FIGURES.md, In the forms of docs/DESIGN-PASS.md).
+// Whether an entry of the known list is the identifier, part after part.
 #[tactic(auto, using(crate::proofs::Known::in_parts))]
 fn is_id(entry: &[u8], id: &[u8; 25]) -> bool
     requires { length entry.now ≡ 25 }
